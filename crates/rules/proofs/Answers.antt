@@ -1,0 +1,48 @@
+-- The parts of an answer.
+use Prim.Native.Nat.{ℕ}
+use mathlib.Core.Path.{_≡_, refl, ap, _∙_}
+use mathlib.Core.List.{List}
+use mathlib.Core.Bool.{Bool, true, false, cond}
+use native.Mathlib.Omega.{arith}
+use lib.ListN.{length}
+use lib.Dec.{eqb}
+use borrow.Author.Tests.{eqb-true}
+use Rattle.rules.specs.declared.Head.{Head}
+use Rattle.rules.specs.Ballot.{bytesOf}
+use Rattle.rules.specs.Head.{sound, startNumber, startOf, ballotOf, sendOf}
+use Rattle.rules.specs.Tick.{tickNumber, tickOf}
+use Rattle.rules.specs.Record.{isRecord}
+use Rattle.rules.proofs.Truth.{and-left}
+
+pub start-number : (n own proposal : ℕ) → startOf n own proposal .number ≡ startNumber n own proposal
+unfolding startOf
+start-number n own proposal = refl
+
+pub tick-number : (h : Head) (l : List ℕ) (coin : ℕ) → tickOf h l coin .number ≡ tickNumber h l coin
+unfolding tickOf
+tick-number h l coin = refl
+
+pub record-length : (r : List ℕ) → isRecord r ≡ true → length r ≡ 20
+unfolding isRecord
+record-length r e = eqb-true (length r) 20 (and-left (eqb (length r) 20) _ e)
+
+-- a head sends where it is sound, and its ballot's bytes
+pub send-sound : (h : Head) → sendOf h .number ≡ 0 → sound h ≡ true
+unfolding sendOf
+send-sound h = go (sound h)
+  where
+    go : (t : Bool) → _≡_ {A = ℕ} (cond t 0 3) 0 → t ≡ true
+    go true e = refl
+    go false e = absurd (omega arith)
+
+pub send-unsound : (h : Head) → (sendOf h .number ≡ 0 → ⊥) → sound h ≡ false
+unfolding sendOf
+send-unsound h = go (sound h)
+  where
+    go : (t : Bool) → (_≡_ {A = ℕ} (cond t 0 3) 0 → ⊥) → t ≡ false
+    go true f = absurd (f refl)
+    go false f = refl
+
+pub send-bytes : (h : Head) → sound h ≡ true → sendOf h .bytes ≡ bytesOf (ballotOf h)
+unfolding sendOf
+send-bytes h e = rw e

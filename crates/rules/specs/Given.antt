@@ -1,0 +1,154 @@
+-- Document 01's table 'given exactly when' in propositions: what each number's sentence says, in its words.
+use Prim.Native.Nat.{ℕ, _+_, _*_, _%_, _≤_, _<_}
+use mathlib.Core.Path.{_≡_}
+use mathlib.Core.List.{List, [], _∷_}
+use mathlib.Core.Bool.{true}
+use mathlib.Core.Logic.{_⊎_}
+use lib.ListN.{length, getD}
+use Rattle.rules.specs.declared.Value.{Value}
+use Rattle.rules.specs.declared.Value.the-variants.{Zero, One, Blank}
+use Rattle.rules.specs.declared.Status.{Status}
+use Rattle.rules.specs.declared.Status.the-variants.{Undecided, Decided}
+use Rattle.rules.specs.declared.Decision.{Decision}
+use Rattle.rules.specs.declared.Decision.the-variants.{Unwritten}
+use Rattle.rules.specs.declared.Ballot.{Ballot}
+use Rattle.rules.specs.declared.Head.{Head}
+use Rattle.rules.specs.Ballot.{valueCode, statusCode, phaseAt, ballotAt}
+use Rattle.rules.specs.Heard.{member, size, heard}
+use Rattle.rules.specs.Head.{decisionFor}
+use Rattle.rules.specs.Tick.{ballots, gathered, stepped}
+
+infix 40 _exactly-when_
+-- a line of the table
+pub data Row : Type 1 where
+  _exactly-when_ : ℕ → Type 0 → Row
+
+-- number is given by the table: its line holds and no earlier one does; 0 where none holds
+abbrev pub Given : ℕ → List Row → Type 0
+Given number [] = number ≡ 0
+Given number ((k exactly-when P) ∷ later) = (P × (number ≡ k)) ⊎ ((P → ⊥) × Given number later)
+
+-- "n .. 2 to 32"
+abbrev pub Heads : ℕ → Type 0
+Heads n = (2 ≤ n) × (n ≤ 32)
+
+-- "Ballot rules, by phase", of a phase, a value's code and a status's code
+pub data Obeys (phase value status : ℕ) : Type 0 where
+  -- "Phase 1: value 0 or 1, undecided."
+  first : phase ≡ 1 → value < 2 → status ≡ 0 → Obeys phase value status
+  -- "Phase 2: any value, undecided."
+  second : phase ≡ 2 → value < 3 → status ≡ 0 → Obeys phase value status
+  -- "Odd from 3: value 0 or 1, either status."
+  odd : 3 ≤ phase → phase % 2 ≡ 1 → value < 2 → status < 2 → Obeys phase value status
+  -- "Even from 4: any value; blank only when undecided."
+  even : 4 ≤ phase → phase % 2 ≡ 0 → value < 3 → status < 2 → (value ≡ 2 → status ≡ 0) → Obeys phase value status
+
+-- "a ballot breaks a ballot rule", the one at index i; "Sender below n."
+abbrev pub Breaks : ℕ → List ℕ → ℕ → Type 0
+Breaks n l i = (getD l (i * 5) 0 < n) × Obeys (phaseAt l i) (getD l (i * 5 + 1) 0) (getD l (i * 5 + 2) 0) → ⊥
+
+-- head s is heard with v
+abbrev pub Hears : Head → Value → ℕ → Type 0
+Hears h v s = member s (heard h v) ≡ true
+
+-- "A head is sound when:"
+pub record Sound (h : Head) : Type 0 where
+  -- "n is 2 to 32;"
+  pub heads : Heads (h .n)
+  -- "own number below n;"
+  pub own : h .own < h .n
+  -- "its phase, value and status obey the same rules;"
+  pub rules : Obeys (h .phase) (valueCode (h .value)) (statusCode (h .status))
+  -- "decided means that the decision is there and equals the value;"
+  pub decided : h .status ≡ Decided → (h .decision ≡ decisionFor (h .value)) × (h .decision ≡ Unwritten → ⊥)
+  -- "a decision means phase 3 or more;"
+  pub decision : (h .decision ≡ Unwritten → ⊥) → 3 ≤ h .phase
+  -- "the three sets are disjoint, with members below n;"
+  pub disjoint : (v w : Value) (s : ℕ) → Hears h v s → Hears h w s → v ≡ w
+  pub members : (v : Value) (s : ℕ) → Hears h v s → s < h .n
+  -- "at an odd phase none is heard blank;"
+  pub odd : h .phase % 2 ≡ 1 → (s : ℕ) → Hears h Blank s → ⊥
+  -- "at an even phase 0 and 1 are not both heard;"
+  pub even : h .phase % 2 ≡ 0 → (s t : ℕ) → Hears h Zero s → Hears h One t → ⊥
+  -- "its own number, if heard, stands under its own value."
+  pub ownHeard : (v : Value) → Hears h v (h .own) → v ≡ h .value
+
+-- "another value or status"
+abbrev pub Other : Ballot → Value → Status → Type 0
+Other b v s = (b .value ≡ v → ⊥) ⊎ (b .status ≡ s → ⊥)
+
+-- "a ballot under the head's own number has a higher phase, or the same phase and another value or status"
+abbrev pub OwnFromAhead : Head → Ballot → Type 0
+OwnFromAhead h b = (b .sender ≡ h .own) × ((h .phase < b .phase) ⊎ ((b .phase ≡ h .phase) × Other b (h .value) (h .status)))
+
+-- "two ballots of one sender and phase differ"
+abbrev pub Differ : Ballot → Ballot → Type 0
+Differ a b = (a .sender ≡ b .sender) × (a .phase ≡ b .phase) × Other a (b .value) (b .status)
+
+-- "one at the present phase differs in value from what that sender is held under"
+abbrev pub HeldOtherwise : Head → Ballot → Type 0
+HeldOtherwise h b = (b .phase ≡ h .phase) × ((v : Value) × Hears h v (b .sender) × (v ≡ b .value → ⊥))
+
+-- some ballot of the list; two ballots of the list
+abbrev pub SomeBallot : List ℕ → (ℕ → Type 0) → Type 0
+SomeBallot l P = (i : ℕ) × (i < ballots l) × P i
+
+abbrev pub TwoBallots : List ℕ → (Ballot → Ballot → Type 0) → Type 0
+TwoBallots l P = SomeBallot l (λ i. (j : ℕ) × (j < i) × P (ballotAt l j) (ballotAt l i))
+
+-- somebody is heard with v
+abbrev pub HeardAtAll : Head → Value → Type 0
+HeardAtAll h v = (s : ℕ) × Hears h v s
+
+-- the number of heads heard, doubled, exceeds n
+abbrev pub Quorum : Head → Type 0
+Quorum h = h .n < (size (h .zeros) + size (h .ones) + size (h .blanks)) * 2
+
+-- "decided with a blank, or with a value unlike the decision already written"
+abbrev pub DecidesOtherwise : Head → Type 0
+DecidesOtherwise h =
+    (h .status ≡ Decided)
+    × ((h .value ≡ Blank) ⊎ ((h .decision ≡ Unwritten → ⊥) × (h .decision ≡ decisionFor (h .value) → ⊥)))
+
+-- ---- the tables
+
+abbrev pub startTable : ℕ → ℕ → ℕ → List Row
+startTable n own proposal =
+    -- "start ..: n not 2 to 32; start: own number not below n"
+    (1 exactly-when ((Heads n → ⊥) ⊎ (own < n → ⊥)))
+    -- "start: proposal above 1"
+    ∷ (2 exactly-when (1 < proposal))
+    ∷ []
+
+abbrev pub readTable : ℕ → List ℕ → List Row
+readTable n bytes =
+    -- "reading one ballot: n not 2 to 32"
+    (1 exactly-when (Heads n → ⊥))
+    -- "one ballot read ..: not five bytes"
+    ∷ (5 exactly-when (length bytes ≡ 5 → ⊥))
+    -- "a ballot breaks a ballot rule"
+    ∷ (6 exactly-when Breaks n bytes 0)
+    ∷ []
+
+abbrev pub tickTable : Head → List ℕ → ℕ → List Row
+tickTable h l coin =
+    -- "head not sound"
+    (3 exactly-when (Sound h → ⊥))
+    -- "coin above 1, even if not needed"
+    ∷ (4 exactly-when (1 < coin))
+    -- "list length not a multiple of 5, or over 320 bytes"
+    ∷ (5 exactly-when ((length l % 5 ≡ 0 → ⊥) ⊎ (320 < length l)))
+    -- "a ballot breaks a ballot rule"
+    ∷ (6 exactly-when SomeBallot l (Breaks (h .n) l))
+    -- "a ballot under the head's own number has a higher phase, or the same phase and another value or status"
+    ∷ (7 exactly-when SomeBallot l (λ i. OwnFromAhead h (ballotAt l i)))
+    -- "two ballots of one sender and phase differ; or one at the present phase differs in value from what that sender is
+    -- held under"
+    ∷ (8 exactly-when (TwoBallots l Differ ⊎ SomeBallot l (λ i. HeldOtherwise h (ballotAt l i))))
+    -- "after step 2, phase even and both 0 and 1 heard"
+    ∷ (9 exactly-when ((gathered h l .phase % 2 ≡ 0) × HeardAtAll (gathered h l) Zero × HeardAtAll (gathered h l) One))
+    -- "step 3 would need phase 65,536"
+    ∷ (10 exactly-when (Quorum (gathered h l) × (65536 ≤ gathered h l .phase + 1)))
+    -- "the end would be decided with a blank, or with a value unlike the decision already written"
+    ∷ (11 exactly-when DecidesOtherwise (stepped (gathered h l) coin))
+    ∷ []

@@ -1,0 +1,109 @@
+-- Heads: soundness, the start, and what a head sends. Document 01, 'Heads and ballots'.
+use Prim.Native.Nat.{ℕ, _%_}
+use mathlib.Core.List.{List, [], _∷_}
+use mathlib.Core.Bool.{Bool, true, false, cond, _&&_, _||_, not}
+use lib.Dec.{ltb, leb, eqb}
+use Rattle.rules.specs.declared.Value.{Value}
+use Rattle.rules.specs.declared.Value.the-variants.{Zero, One, Blank}
+use Rattle.rules.specs.declared.Status.{Status}
+use Rattle.rules.specs.declared.Status.the-variants.{Undecided, Decided}
+use Rattle.rules.specs.declared.Decision.{Decision}
+use Rattle.rules.specs.declared.Decision.the-variants.{Zero as ForZero, One as ForOne, Unwritten}
+use Rattle.rules.specs.declared.Ballot.{Ballot}
+use Rattle.rules.specs.declared.Head.{Head}
+use Rattle.rules.specs.declared.Started.{Started}
+use Rattle.rules.specs.declared.Written.{Written}
+use Rattle.rules.specs.Number.{_when_, firstThatApplies}
+use Rattle.rules.specs.Ballot.{valueCode, valueOf, statusCode, sameValue, bytesOf, obeys, notHeads}
+use Rattle.rules.specs.Heard.{member, apart, within, heard}
+
+-- "decision (2 for none)"
+abbrev pub decisionCode : Decision → ℕ
+decisionCode ForZero = 0
+decisionCode ForOne = 1
+decisionCode Unwritten = 2
+
+-- the decision for a value; there is none for blank
+abbrev pub decisionFor : Value → Decision
+decisionFor Zero = ForZero
+decisionFor One = ForOne
+decisionFor Blank = Unwritten
+
+abbrev pub isDecided : Head → Bool
+isDecided h = eqb (statusCode (h .status)) 1
+
+abbrev pub isWritten : Head → Bool
+isWritten h = ltb (decisionCode (h .decision)) 2
+
+-- "the decision is there and equals the value"
+abbrev pub decisionIsValue : Head → Bool
+decisionIsValue h = isWritten h && eqb (decisionCode (h .decision)) (valueCode (h .value))
+
+-- "none is heard" with v; v is "heard at all"
+abbrev pub noneHeard : Head → Value → Bool
+noneHeard h v = eqb (heard h v) 0
+
+abbrev pub anyHeard : Head → Value → Bool
+anyHeard h v = not (noneHeard h v)
+
+-- head s, if heard, stands under w: where it is heard with v, v is w
+abbrev pub heardAs : Head → ℕ → Value → Value → Bool
+heardAs h s w v = not (member s (heard h v)) || sameValue v w
+
+unfoldable pub standsUnder : Head → ℕ → Value → Bool
+standsUnder h s w = heardAs h s w Zero && (heardAs h s w One && heardAs h s w Blank)
+
+-- "decided means that the decision is there and equals the value; a decision means phase 3 or more"
+unfoldable pub decisionFits : Head → Bool
+decisionFits h = (not (isDecided h) || decisionIsValue h) && (not (isWritten h) || leb 3 (h .phase))
+
+-- "the three sets are disjoint, with members below n"
+unfoldable pub setsFit : Head → Bool
+setsFit h =
+    (apart (h .zeros) (h .ones) && (apart (h .zeros) (h .blanks) && apart (h .ones) (h .blanks)))
+    && (within (h .n) (h .zeros) && (within (h .n) (h .ones) && within (h .n) (h .blanks)))
+
+-- "at an odd phase none is heard blank; at an even phase 0 and 1 are not both heard"
+unfoldable pub phaseFits : Head → Bool
+phaseFits h =
+    (not (eqb (h .phase % 2) 1) || noneHeard h Blank)
+    && (not (eqb (h .phase % 2) 0) || not (anyHeard h Zero && anyHeard h One))
+
+-- "A head is sound when: n is 2 to 32; own number below n; its phase, value and status obey the same rules; .."; and at
+-- last: "its own number, if heard, stands under its own value."
+unfoldable pub sound : Head → Bool
+sound h =
+    not (notHeads (h .n))
+    && (ltb (h .own) (h .n)
+    && (obeys (h .phase) (valueCode (h .value)) (statusCode (h .status))
+    && (decisionFits h && (setsFit h && (phaseFits h && standsUnder h (h .own) (h .value))))))
+
+-- 1: "start: n not 2 to 32; own number not below n"; 2: "start: proposal above 1"
+unfoldable pub startNumber : ℕ → ℕ → ℕ → ℕ
+startNumber n own proposal = firstThatApplies ((1 when (notHeads n || not (ltb own n))) ∷ (2 when ltb 1 proposal) ∷ [])
+
+-- "It starts at phase 1, value = proposal, undecided, no decision, nothing heard."
+abbrev pub fresh : ℕ → ℕ → ℕ → Head
+fresh n own proposal =
+    record { n = n; own = own; phase = 1; value = valueOf proposal; status = Undecided; decision = Unwritten; zeros = 0; ones = 0; blanks = 0 }
+
+-- "a head with every field zero (value and decision 0, undecided)"
+abbrev pub zeroHead : Head
+zeroHead =
+    record { n = 0; own = 0; phase = 0; value = Zero; status = Undecided; decision = ForZero; zeros = 0; ones = 0; blanks = 0 }
+
+-- "A refused start gives a head with every field zero"
+unfoldable pub startOf : ℕ → ℕ → ℕ → Started
+startOf n own proposal =
+    record {
+      number = startNumber n own proposal;
+      head = cond (eqb (startNumber n own proposal) 0) (fresh n own proposal) zeroHead;
+    }
+
+-- "A head sends its present phase, value and status"
+abbrev pub ballotOf : Head → Ballot
+ballotOf h = record { sender = h .own; value = h .value; status = h .status; phase = h .phase }
+
+-- "writing the ballot of a sound head gives those five bytes, of an unsound one refusal 3 and five zeros"
+unfoldable pub sendOf : Head → Written
+sendOf h = record { number = cond (sound h) 0 3; bytes = cond (sound h) (bytesOf (ballotOf h)) (0 ∷ 0 ∷ 0 ∷ 0 ∷ 0 ∷ []) }

@@ -1,0 +1,427 @@
+"""A model of the vote engine, written from document 01 alone.
+
+It is made to be read beside document 01: each sentence of the document that
+decides something stands here as a comment, and the lines under it do what it
+says.  It is slow on purpose.  A value is 0, 1 or "blank", not a code; what a
+head has heard is a set of (sender, value) pairs, not three words of bits.
+
+Every entry gives back a pair: the number, then what comes with it.
+"""
+
+from dataclasses import dataclass, replace
+from typing import NamedTuple
+
+BLANK = "blank"
+NONE = "none"
+UNDECIDED = "undecided"
+DECIDED = "decided"
+
+# The codes of document 01: value 0, 1 or 2 (blank); status 0 or 1 (decided);
+# decision 0, 1 or 2 (none).
+VALUE_OF_CODE = {0: 0, 1: 1, 2: BLANK}
+STATUS_OF_CODE = {0: UNDECIDED, 1: DECIDED}
+DECISION_OF_CODE = {0: 0, 1: 1, 2: NONE}
+CODE_OF_VALUE = {0: 0, 1: 1, BLANK: 2}
+CODE_OF_STATUS = {UNDECIDED: 0, DECIDED: 1}
+CODE_OF_DECISION = {0: 0, 1: 1, NONE: 2}
+
+
+class Ballot(NamedTuple):
+    """Written in the order of document 01's table: (sender, phase, value, status)."""
+    sender: int
+    phase: int
+    value: object
+    status: str
+
+
+@dataclass(frozen=True)
+class Head:
+    """The heard ballots are (sender, value) pairs.
+
+    A sound head has at most one pair for a sender.  An unsound one may have
+    more, and members that are not below n: it must come back as it came.
+    """
+    n: int
+    own: int
+    phase: int
+    value: object
+    status: str
+    decision: object
+    heard: frozenset
+
+
+# A refused start gives a head with every field zero (value and decision 0,
+# undecided).
+ZERO_HEAD = Head(0, 0, 0, 0, UNDECIDED, 0, frozenset())
+
+# A refusal comes with a ballot of zero fields.
+ZERO_BALLOT = Ballot(0, 0, 0, UNDECIDED)
+
+
+# ---------------------------------------------------------------- ballots
+
+def phase_value_status_stand(phase, value, status):
+    """The ballot rules by phase; a sound head obeys the same."""
+    # Phase 0 never stands.
+    if phase == 0:
+        return False
+    # Phase 1: value 0 or 1, undecided.
+    if phase == 1:
+        return value in (0, 1) and status == UNDECIDED
+    # Phase 2: any value, undecided.
+    if phase == 2:
+        return value in (0, 1, BLANK) and status == UNDECIDED
+    # Odd from 3: value 0 or 1, either status.
+    if phase % 2 == 1:
+        return value in (0, 1) and status in (UNDECIDED, DECIDED)
+    # Even from 4: any value; blank only when undecided.
+    if value == BLANK:
+        return status == UNDECIDED
+    return value in (0, 1) and status in (UNDECIDED, DECIDED)
+
+
+def ballot_of(n, five):
+    """The ballot of five bytes among n heads, or None where it breaks a rule."""
+    # Five bytes: sender; value 0, 1 or 2 (blank); status 0 or 1 (decided);
+    # phase, high byte first.
+    sender = five[0]
+    value_code = five[1]
+    status_code = five[2]
+    phase = 256 * five[3] + five[4]
+    # A ballot carries a value that is 0, 1 or blank.
+    if value_code not in VALUE_OF_CODE:
+        return None
+    if status_code not in STATUS_OF_CODE:
+        return None
+    value = VALUE_OF_CODE[value_code]
+    status = STATUS_OF_CODE[status_code]
+    if not phase_value_status_stand(phase, value, status):
+        return None
+    # Sender below n.
+    if not sender < n:
+        return None
+    return Ballot(sender, phase, value, status)
+
+
+def bytes_of(ballot):
+    """The five bytes of a ballot."""
+    return bytes([
+        ballot.sender,
+        CODE_OF_VALUE[ballot.value],
+        CODE_OF_STATUS[ballot.status],
+        ballot.phase // 256,
+        ballot.phase % 256,
+    ])
+
+
+def read(n, data):
+    """Reading one ballot takes n and the bytes."""
+    # 1: reading one ballot: n not 2 to 32.
+    if not 2 <= n <= 32:
+        return 1, ZERO_BALLOT
+    # 5: one ballot read: not five bytes.
+    if len(data) != 5:
+        return 5, ZERO_BALLOT
+    # 6: a ballot breaks a ballot rule.
+    ballot = ballot_of(n, data)
+    if ballot is None:
+        return 6, ZERO_BALLOT
+    return 0, ballot
+
+
+# ------------------------------------------------------------------ heads
+
+def sound(head):
+    """A head is sound when:"""
+    # n is 2 to 32;
+    if not 2 <= head.n <= 32:
+        return False
+    # own number below n;
+    if not head.own < head.n:
+        return False
+    # its phase, value and status obey the same rules;
+    if not phase_value_status_stand(head.phase, head.value, head.status):
+        return False
+    # decided means that the decision is there and equals the value;
+    if head.status == DECIDED:
+        if head.decision == NONE:
+            return False
+        if head.decision != head.value:
+            return False
+    # a decision means phase 3 or more;
+    if head.decision != NONE and head.phase < 3:
+        return False
+    # the three sets are disjoint,
+    senders = [sender for sender, value in head.heard]
+    if len(senders) != len(set(senders)):
+        return False
+    # with members below n;
+    for sender in senders:
+        if not sender < head.n:
+            return False
+    values = [value for sender, value in head.heard]
+    # at an odd phase none is heard blank;
+    if head.phase % 2 == 1 and BLANK in values:
+        return False
+    # at an even phase 0 and 1 are not both heard;
+    if head.phase % 2 == 0 and 0 in values and 1 in values:
+        return False
+    # its own number, if heard, stands under its own value.
+    for sender, value in head.heard:
+        if sender == head.own and value != head.value:
+            return False
+    return True
+
+
+def start(n, own, proposal):
+    """Start one head."""
+    # 1: start: n not 2 to 32;
+    if not 2 <= n <= 32:
+        return 1, ZERO_HEAD
+    # start: own number not below n.
+    if not own < n:
+        return 1, ZERO_HEAD
+    # 2: start: proposal above 1.
+    if proposal > 1:
+        return 2, ZERO_HEAD
+    # It starts at phase 1, value = proposal, undecided, no decision, nothing
+    # heard.
+    return 0, Head(n, own, 1, proposal, UNDECIDED, NONE, frozenset())
+
+
+def send(head):
+    """The ballot that a head sends."""
+    # 3: head not sound.  Of an unsound one refusal 3 and five zeros.
+    if not sound(head):
+        return 3, ZERO_BALLOT
+    # A head sends its present phase, value and status.
+    return 0, Ballot(head.own, head.phase, head.value, head.status)
+
+
+# --------------------------------------------------------------- one tick
+
+def tick(head, data, coin):
+    """Given a head, a list of 0 to 64 ballots as bytes, and a coin.
+
+    A refused tick gives back the head as it came, sound or not.
+    The refusals stand in the order of their numbers, so the first that applies
+    is the one that is given.
+    """
+    # 3: head not sound.
+    if not sound(head):
+        return 3, head
+
+    # 4: coin above 1, even if not needed.
+    if coin > 1:
+        return 4, head
+
+    # 5: list length not a multiple of 5, or over 320 bytes.
+    if len(data) % 5 != 0:
+        return 5, head
+    if len(data) > 320:
+        return 5, head
+
+    # 6: a ballot breaks a ballot rule.  (A ballot below the phase too.)
+    ballots = []
+    for place in range(0, len(data), 5):
+        ballot = ballot_of(head.n, data[place:place + 5])
+        if ballot is None:
+            return 6, head
+        ballots.append(ballot)
+
+    # 7: a ballot under the head's own number has a higher phase, or the same
+    # phase and another value or status.
+    for ballot in ballots:
+        if ballot.sender == head.own:
+            if ballot.phase > head.phase:
+                return 7, head
+            if ballot.phase == head.phase and ballot.value != head.value:
+                return 7, head
+            if ballot.phase == head.phase and ballot.status != head.status:
+                return 7, head
+
+    # 8: two ballots of one sender and phase differ;
+    for one in ballots:
+        for other in ballots:
+            if one.sender == other.sender and one.phase == other.phase:
+                if one != other:
+                    return 8, head
+    # or one at the present phase differs in value from what that sender is
+    # held under.
+    held = dict(head.heard)
+    for ballot in ballots:
+        if ballot.phase == head.phase and ballot.sender in held:
+            if ballot.value != held[ballot.sender]:
+                return 8, head
+
+    # Step 1.  Add the ballots to what was heard.  Equal repeats count once:
+    # this is a set.  Ballots below the present phase change nothing.
+    everything_heard = {(head.phase, sender, value) for sender, value in head.heard}
+    for ballot in ballots:
+        if ballot.phase >= head.phase:
+            everything_heard.add((ballot.phase, ballot.sender, ballot.value))
+
+    # Step 2.  If some ballot has a higher phase, take phase, value and status
+    # from a ballot of the highest phase; among several senders the lowest
+    # number gives it.
+    phase = head.phase
+    value = head.value
+    status = head.status
+    higher = [ballot for ballot in ballots if ballot.phase > head.phase]
+    if higher:
+        highest_phase = max(ballot.phase for ballot in higher)
+        of_highest_phase = [b for b in higher if b.phase == highest_phase]
+        giver = min(of_highest_phase, key=lambda b: b.sender)
+        phase = giver.phase
+        value = giver.value
+        status = giver.status
+    # Heard sets now hold that phase's ballots only.
+    heard = {(s, v) for p, s, v in everything_heard if p == phase}
+
+    def heads_heard_with(wanted):
+        return len({s for s, v in heard if v == wanted})
+
+    # 9: after step 2, phase even and both 0 and 1 heard.
+    if phase % 2 == 0 and heads_heard_with(0) > 0 and heads_heard_with(1) > 0:
+        return 9, head
+
+    # Step 3.  If the number of heads heard at the phase, doubled, exceeds n,
+    # step:
+    heads_heard = len({s for s, v in heard})
+    if heads_heard * 2 > head.n:
+        # 10: step 3 would need phase 65,536.
+        if phase + 1 == 65536:
+            return 10, head
+        if phase % 2 == 1:
+            # odd phase: if a value was heard from more than n/2 heads, take
+            # it, else blank;
+            if heads_heard_with(0) > head.n / 2:
+                value = 0
+            elif heads_heard_with(1) > head.n / 2:
+                value = 1
+            else:
+                value = BLANK
+        else:
+            # even phase: if a value 0 or 1 was heard from more than n/2
+            # heads, become decided;
+            if heads_heard_with(0) > head.n / 2 or heads_heard_with(1) > head.n / 2:
+                status = DECIDED
+            # then take the value 0 or 1 that was heard at all, else the coin.
+            if heads_heard_with(0) > 0:
+                value = 0
+            elif heads_heard_with(1) > 0:
+                value = 1
+            else:
+                value = coin
+        # Then phase rises by one and the sets become empty.
+        phase = phase + 1
+        heard = set()
+
+    # 11: the end would be decided with a blank,
+    if status == DECIDED and value == BLANK:
+        return 11, head
+    # or with a value unlike the decision already written.
+    if status == DECIDED and head.decision != NONE and value != head.decision:
+        return 11, head
+
+    # Step 4.  If decided, the decision is the value.
+    # (Step 2 can put status back to undecided.  The decision stays.)
+    decision = head.decision
+    if status == DECIDED:
+        decision = value
+
+    return 0, replace(head, phase=phase, value=value, status=status,
+                      decision=decision, heard=frozenset(heard))
+
+
+# ---------------------------------------------------------- C's 20 bytes
+
+def record_of(head):
+    """The record of 20 bytes."""
+    # n, own number, phase (2, high byte first), value, status, decision (2 for
+    # none), a zero byte,
+    record = bytes([
+        head.n,
+        head.own,
+        head.phase // 256,
+        head.phase % 256,
+        CODE_OF_VALUE[head.value],
+        CODE_OF_STATUS[head.status],
+        CODE_OF_DECISION[head.decision],
+        0,
+    ])
+    # then the sets for 0, 1 and blank, 4 bytes each, high byte first, lowest
+    # bit for head 0.
+    for wanted in (0, 1, BLANK):
+        word = sum(2 ** sender for sender, value in head.heard if value == wanted)
+        record += word.to_bytes(4, "big")
+    return record
+
+
+def head_of(record):
+    """The head that a record holds, or None.
+
+    Another length or a byte outside these codes makes it unsound: None is such
+    a record, which holds no head at all.
+    """
+    if len(record) != 20:
+        return None
+    if record[4] not in VALUE_OF_CODE:
+        return None
+    if record[5] not in STATUS_OF_CODE:
+        return None
+    if record[6] not in DECISION_OF_CODE:
+        return None
+    if record[7] != 0:
+        return None
+    heard = set()
+    for place, wanted in ((8, 0), (12, 1), (16, BLANK)):
+        word = int.from_bytes(record[place:place + 4], "big")
+        for sender in range(32):
+            if word // 2 ** sender % 2 == 1:
+                heard.add((sender, wanted))
+    return Head(record[0], record[1], 256 * record[2] + record[3],
+                VALUE_OF_CODE[record[4]], STATUS_OF_CODE[record[5]],
+                DECISION_OF_CODE[record[6]], frozenset(heard))
+
+
+def c_start(record, n, own, proposal):
+    """Start, called from C.  The record's old contents are not read."""
+    number, head = start(n, own, proposal)
+    # 1 and 2 come first; from C the record is unchanged.
+    if number != 0:
+        return number, record
+    # 3: at a start from C, record not 20 bytes.
+    if len(record) != 20:
+        return 3, record
+    return 0, record_of(head)
+
+
+def c_tick(record, ballots, coin):
+    """Tick, called from C."""
+    head = head_of(record)
+    # 3: head not sound.
+    if head is None:
+        return 3, record
+    number, after = tick(head, ballots, coin)
+    # A refused tick gives back the head as it came.
+    if number != 0:
+        return number, record
+    return 0, record_of(after)
+
+
+def c_ballot(record, buffer):
+    """The ballot that a head sends, written to a lent buffer."""
+    # Either refusal leaves every byte of that buffer zero.
+    zeros = bytes(len(buffer))
+    head = head_of(record)
+    # 3: head not sound.
+    if head is None:
+        return 3, zeros
+    number, ballot = send(head)
+    if number != 0:
+        return number, zeros
+    # Where a buffer is lent for it, a length other than five is 5, after 3.
+    if len(buffer) != 5:
+        return 5, zeros
+    return 0, bytes_of(ballot)
