@@ -5,3 +5,8 @@ pub mod Hearing
 pub mod Meanings
 pub mod Leader
 pub mod Answers
+pub mod Given
+pub mod Sixteen
+pub mod Accepted
+pub mod Ballots
+pub mod Records

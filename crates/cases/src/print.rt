@@ -1,0 +1,29 @@
+// What is printed: one line for each vector.
+use libc::STDOUT_FILENO;
+
+// The letter, the number as two hex digits, and the bytes.
+pub fn print_answer(letter: u8, number: u32, bytes: &[u8]) {
+    io::write_all(STDOUT_FILENO, &[letter, b' ']);
+    io::print_hex(STDOUT_FILENO, number as u64, 2);
+    io::write_all(STDOUT_FILENO, b" ");
+    print_bytes(bytes);
+    io::write_all(STDOUT_FILENO, b"\n");
+}
+
+// A line that is no vector prints no answer, but something that no answer is, so that it shows.
+pub fn malformed(letter: u8) {
+    io::write_all(STDOUT_FILENO, &[letter, b' ', b'?', b'?', b'\n']);
+}
+
+// Prints two lowercase digits for each byte.
+fn print_bytes(bytes: &[u8]) {
+    let mut i: usize = 0;
+    while i < bytes.len() {
+        print_byte(bytes[i]);
+        i += 1;
+    }
+}
+
+fn print_byte(byte: u8) {
+    io::print_hex(STDOUT_FILENO, byte as u64, 2);
+}

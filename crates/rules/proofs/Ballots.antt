@@ -1,0 +1,80 @@
+-- "Every ballot written reads back as written, and every accepted ballot's bytes are the only ones for it." (Demand 2)
+use Prim.Native.Nat.{ℕ, zero, suc, _+_, _*_, _/_, _%_, _<_}
+use mathlib.Core.Path.{_≡_, refl, sym, ap, ap₂, _∙_}
+use mathlib.Core.List.{List, [], _∷_}
+use mathlib.Core.Bool.{Bool, true, false, cond, not}
+use native.Mathlib.Nat.{div-add-mod'}
+use native.Mathlib.Omega.{arith}
+use lib.ListN.{length, getD}
+use lib.Dec.{eqb, ltb}
+use borrow.Author.Tests.{lt-ltb, eq-eqb}
+use Rattle.rules.specs.declared.Value.{Value}
+use Rattle.rules.specs.declared.Status.{Status}
+use Rattle.rules.specs.declared.Ballot.{Ballot}
+use Rattle.rules.specs.declared.Head.{Head}
+use Rattle.rules.specs.Number.{firstThatApplies}
+use Rattle.rules.specs.Ballot.{valueCode, statusCode, phaseAt, ballotAt, bytesOf, notHeads, breaksRule, readNumber, readBallot}
+use Rattle.rules.specs.Head.{sound, ballotOf, sendOf}
+use Rattle.rules.specs.Given.{Heads}
+use Rattle.rules.proofs.Truth.{not-false}
+use Rattle.rules.proofs.Meanings.{value-back, status-back, means-heads, means-obeys, means-sound}
+use Rattle.rules.proofs.Accepted.{Stands, Codes, ReadsWell, read-accepted}
+
+-- the bytes of a ballot hold it
+pub bytes-hold : (b : Ballot) → ballotAt (bytesOf b) 0 ≡ b
+unfolding ballotAt
+bytes-hold b = simp (value-back (b .value), status-back (b .status), div-add-mod' (b .phase) 256)
+
+-- a ballot that stands in a vote of n heads is read from its bytes
+pub written-reads-back : (n : ℕ) (b : Ballot) → Heads n → Stands n b → (readNumber n (bytesOf b) ≡ 0) × (readBallot n (bytesOf b) ≡ b)
+unfolding readBallot
+written-reads-back n b few stands = (none, ap (λ (k : ℕ). cond (eqb k 0) (ballotAt (bytesOf b) 0) _) none ∙ bytes-hold b)
+  where
+    kept : breaksRule n (bytesOf b) 0 ≡ false
+    kept = unfold breaksRule in simp (lt-ltb (b .sender) n (stands .sender), div-add-mod' (b .phase) 256, means-obeys (b .phase) (valueCode (b .value)) (statusCode (b .status)) .1 (stands .rules))
+
+    none : readNumber n (bytesOf b) ≡ 0
+    none = unfold readNumber firstThatApplies in simp (not-false (means-heads n) (λ f. f few), kept)
+
+-- so what a sound head sends is read as its ballot
+pub sent-reads-back : (h : Head) → sound h ≡ true → (sendOf h .number ≡ 0) × (readNumber (h .n) (sendOf h .bytes) ≡ 0) × (readBallot (h .n) (sendOf h .bytes) ≡ ballotOf h)
+unfolding sendOf
+sent-reads-back h e =
+    let s = means-sound h .0 e in
+    let r = written-reads-back (h .n) (ballotOf h) (s .heads) (record { sender = s .own; rules = s .rules }) in
+    rw e (refl, r .0, r .1)
+
+-- ---- the other way
+
+five : (l : List ℕ) → length l ≡ 5 → l ≡ getD l 0 0 ∷ getD l 1 0 ∷ getD l 2 0 ∷ getD l 3 0 ∷ getD l 4 0 ∷ []
+five [] h = absurd (omega arith)
+five (a ∷ []) h = absurd (omega arith)
+five (a ∷ b ∷ []) h = absurd (omega arith)
+five (a ∷ b ∷ c ∷ []) h = absurd (omega arith)
+five (a ∷ b ∷ c ∷ d ∷ []) h = absurd (omega arith)
+five (a ∷ b ∷ c ∷ d ∷ e ∷ []) h = refl
+five (a ∷ b ∷ c ∷ d ∷ e ∷ f ∷ l) h = absurd (omega arith)
+
+-- a list of bytes
+abbrev pub Bytes : List ℕ → Type 0
+Bytes l = (i : ℕ) → getD l i 0 < 256
+
+-- the bytes of an accepted ballot are the ballot's
+pub only-bytes : (n : ℕ) (l : List ℕ) → Bytes l → readNumber n l ≡ 0 → l ≡ bytesOf (readBallot n l)
+unfolding readBallot
+only-bytes n l small e = rw e (from (read-accepted n l e))
+  where
+    from : ReadsWell n l → l ≡ bytesOf (ballotAt l 0)
+    from w =
+        five l (w .five)
+        ∙ (unfold ballotAt in simp (w .codes .value, w .codes .status, high (getD l 3 0) (getD l 4 0) (small 4), low (getD l 3 0) (getD l 4 0) (small 4)))
+      where
+        high : (a b : ℕ) → b < 256 → (a * 256 + b) / 256 ≡ a
+        high a b h = omega arith
+
+        low : (a b : ℕ) → b < 256 → (a * 256 + b) % 256 ≡ b
+        low a b h = omega arith
+
+-- equal accepted answers come from equal bytes
+pub one-ballot-one-writing : (n m : ℕ) (k l : List ℕ) → Bytes k → Bytes l → readNumber n k ≡ 0 → readNumber m l ≡ 0 → readBallot n k ≡ readBallot m l → k ≡ l
+one-ballot-one-writing n m k l bk bl ek el same = only-bytes n k bk ek ∙ ap bytesOf same ∙ sym (only-bytes m l bl el)
