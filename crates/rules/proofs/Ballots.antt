@@ -28,7 +28,7 @@ bytes-hold b = simp (value-back (b .value), status-back (b .status), div-add-mod
 -- a ballot that stands in a vote of n heads is read from its bytes
 pub written-reads-back : (n : ℕ) (b : Ballot) → Heads n → Stands n b → (readNumber n (bytesOf b) ≡ 0) × (readBallot n (bytesOf b) ≡ b)
 unfolding readBallot
-written-reads-back n b few stands = (none, ap (λ (k : ℕ). cond (eqb k 0) (ballotAt (bytesOf b) 0) _) none ∙ bytes-hold b)
+written-reads-back n b few stands = (none, rw none (bytes-hold b))
   where
     kept : breaksRule n (bytesOf b) 0 ≡ false
     kept = unfold breaksRule in simp (lt-ltb (b .sender) n (stands .sender), div-add-mod' (b .phase) 256, means-obeys (b .phase) (valueCode (b .value)) (statusCode (b .status)) .1 (stands .rules))
@@ -46,18 +46,27 @@ sent-reads-back h e =
 
 -- ---- the other way
 
-five : (l : List ℕ) → length l ≡ 5 → l ≡ getD l 0 0 ∷ getD l 1 0 ∷ getD l 2 0 ∷ getD l 3 0 ∷ getD l 4 0 ∷ []
-five [] h = absurd (omega arith)
-five (a ∷ []) h = absurd (omega arith)
-five (a ∷ b ∷ []) h = absurd (omega arith)
-five (a ∷ b ∷ c ∷ []) h = absurd (omega arith)
-five (a ∷ b ∷ c ∷ d ∷ []) h = absurd (omega arith)
-five (a ∷ b ∷ c ∷ d ∷ e ∷ []) h = refl
-five (a ∷ b ∷ c ∷ d ∷ e ∷ f ∷ l) h = absurd (omega arith)
+-- a list of k numbers, number by number
+unfoldable pub numbers : ℕ → (ℕ → ℕ) → List ℕ
+numbers zero f = []
+numbers (suc k) f = f 0 ∷ numbers k (λ i. f (suc i))
+
+pub number-by-number : (k : ℕ) (l : List ℕ) → length l ≡ k → l ≡ numbers k (λ i. getD l i 0)
+unfolding numbers
+number-by-number zero [] h = refl
+number-by-number zero (a ∷ l) h = absurd (omega arith)
+number-by-number (suc k) [] h = absurd (omega arith)
+number-by-number (suc k) (a ∷ l) h = ap (λ (m : List ℕ). a ∷ m) (number-by-number k l (omega arith))
 
 -- a list of bytes
 abbrev pub Bytes : List ℕ → Type 0
 Bytes l = (i : ℕ) → getD l i 0 < 256
+
+pub high-byte : (a b : ℕ) → b < 256 → (a * 256 + b) / 256 ≡ a
+high-byte a b h = omega arith
+
+pub low-byte : (a b : ℕ) → b < 256 → (a * 256 + b) % 256 ≡ b
+low-byte a b h = omega arith
 
 -- the bytes of an accepted ballot are the ballot's
 pub only-bytes : (n : ℕ) (l : List ℕ) → Bytes l → readNumber n l ≡ 0 → l ≡ bytesOf (readBallot n l)
@@ -66,14 +75,8 @@ only-bytes n l small e = rw e (from (read-accepted n l e))
   where
     from : ReadsWell n l → l ≡ bytesOf (ballotAt l 0)
     from w =
-        five l (w .five)
-        ∙ (unfold ballotAt in simp (w .codes .value, w .codes .status, high (getD l 3 0) (getD l 4 0) (small 4), low (getD l 3 0) (getD l 4 0) (small 4)))
-      where
-        high : (a b : ℕ) → b < 256 → (a * 256 + b) / 256 ≡ a
-        high a b h = omega arith
-
-        low : (a b : ℕ) → b < 256 → (a * 256 + b) % 256 ≡ b
-        low a b h = omega arith
+        number-by-number 5 l (w .five)
+        ∙ (unfold numbers ballotAt in simp (w .codes .value, w .codes .status, high-byte (getD l 3 0) (getD l 4 0) (small 4), low-byte (getD l 3 0) (getD l 4 0) (small 4)))
 
 -- equal accepted answers come from equal bytes
 pub one-ballot-one-writing : (n m : ℕ) (k l : List ℕ) → Bytes k → Bytes l → readNumber n k ≡ 0 → readNumber m l ≡ 0 → readBallot n k ≡ readBallot m l → k ≡ l

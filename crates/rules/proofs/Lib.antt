@@ -10,3 +10,4 @@ pub mod Sixteen
 pub mod Accepted
 pub mod Ballots
 pub mod Records
+pub mod Senders

@@ -86,12 +86,14 @@ stepValue h coin = cond (eqb (h .phase % 2) 1) (bitWith (majority h) Blank) (bit
 unfoldable pub stepStatus : Head → Status
 stepStatus h = cond (eqb (h .phase % 2) 0 && (majority h Zero || majority h One)) Decided (h .status)
 
--- "If the number of heads heard .. exceeds n, step: .. Then phase rises by one and the sets become empty."
+-- "Then phase rises by one and the sets become empty."
+abbrev pub risen : Head → ℕ → Head
+risen h coin =
+    record { n = h .n; own = h .own; phase = h .phase + 1; value = stepValue h coin; status = stepStatus h; decision = h .decision; zeros = 0; ones = 0; blanks = 0 }
+
+-- "If the number of heads heard .. exceeds n, step"
 unfoldable pub stepped : Head → ℕ → Head
-stepped h coin =
-    cond (quorum h)
-    (record { n = h .n; own = h .own; phase = h .phase + 1; value = stepValue h coin; status = stepStatus h; decision = h .decision; zeros = 0; ones = 0; blanks = 0 })
-    h
+stepped h coin = cond (quorum h) (risen h coin) h
 
 -- ---- Step 4: "If decided, the decision is the value."
 unfoldable pub settled : Head → Head
