@@ -11,3 +11,4 @@ pub mod Accepted
 pub mod Ballots
 pub mod Records
 pub mod Senders
+pub mod Soundness
