@@ -148,9 +148,10 @@ tick-accepted h l coin e =
   where
     well-formed : notList l ≡ false → (length l % 5 ≡ 0) × (length l ≤ 320)
     well-formed e =
-        unfold notList in
-        (eqb-true (length l % 5) 0 (not-false (eqb (length l % 5) 0) (or-left-false (not (eqb (length l % 5) 0)) _ e)),
-        ltb-false 320 (length l) (or-right-false (not (eqb (length l % 5) 0)) _ e))
+        unfold notList in (
+          eqb-true (length l % 5) 0 (not-false (eqb (length l % 5) 0) (or-left-false (not (eqb (length l % 5) 0)) _ e)),
+          ltb-false 320 (length l) (or-right-false (not (eqb (length l % 5) 0)) _ e),
+        )
 
     two : ((i : ℕ) × (i < ballots l) × ((j : ℕ) × (j < i) × Differ (ballotAt l j) (ballotAt l i)) → ⊥)
         → (i j : ℕ) → i < ballots l → j < ballots l → Differ (ballotAt l i) (ballotAt l j) → ⊥

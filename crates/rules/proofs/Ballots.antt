@@ -1,6 +1,6 @@
 -- "Every ballot written reads back as written, and every accepted ballot's bytes are the only ones for it." (Demand 2)
 use Prim.Native.Nat.{ℕ, zero, suc, _+_, _*_, _/_, _%_, _<_}
-use mathlib.Core.Path.{_≡_, refl, sym, ap, ap₂, _∙_}
+use mathlib.Core.Path.{_≡_, refl, sym, ap, _∙_}
 use mathlib.Core.List.{List, [], _∷_}
 use mathlib.Core.Bool.{Bool, true, false, cond, not}
 use native.Mathlib.Nat.{div-add-mod'}
@@ -12,10 +12,12 @@ use Rattle.rules.specs.declared.Value.{Value}
 use Rattle.rules.specs.declared.Status.{Status}
 use Rattle.rules.specs.declared.Ballot.{Ballot}
 use Rattle.rules.specs.declared.Head.{Head}
+use Rattle.rules.specs.declared.Read.{Read}
+use Rattle.rules.specs.declared.Read.the-variants.{Accepted, Refused}
 use Rattle.rules.specs.Number.{firstThatApplies}
-use Rattle.rules.specs.Ballot.{valueCode, statusCode, phaseAt, ballotAt, bytesOf, notHeads, breaksRule, readNumber, readBallot}
+use Rattle.rules.specs.Ballot.{valueCode, statusCode, phaseAt, ballotAt, bytesOf, notHeads, breaksRule, readNumber, readBallot, zeroBallot, numberRead, ballotRead}
 use Rattle.rules.specs.Head.{sound, ballotOf, sendOf}
-use Rattle.rules.specs.Given.{Heads}
+use Rattle.rules.specs.Given.{Heads, Obeys, first, second, odd, even}
 use Rattle.rules.proofs.Truth.{not-false}
 use Rattle.rules.proofs.Meanings.{value-back, status-back, means-heads, means-obeys, means-sound}
 use Rattle.rules.proofs.Accepted.{Stands, Codes, ReadsWell, read-accepted}
@@ -81,3 +83,23 @@ only-bytes n l small e = rw e (from (read-accepted n l e))
 -- equal accepted answers come from equal bytes
 pub one-ballot-one-writing : (n m : ℕ) (k l : List ℕ) → Bytes k → Bytes l → readNumber n k ≡ 0 → readNumber m l ≡ 0 → readBallot n k ≡ readBallot m l → k ≡ l
 one-ballot-one-writing n m k l bk bl ek el same = only-bytes n k bk ek ∙ ap bytesOf same ∙ sym (only-bytes m l bl el)
+
+-- ---- one answer of the reader
+
+-- an accepted ballot is not the one of zero fields: phase 0 never stands
+accepted-not-zero : (n : ℕ) (l : List ℕ) → readNumber n l ≡ 0 → readBallot n l ≡ zeroBallot → ⊥
+unfolding readBallot
+accepted-not-zero n l e z = none (ap (λ (b : Ballot). b .phase) (rw e at z)) (read-accepted n l e .stands .rules)
+  where
+    none : {p v s : ℕ} → p ≡ 0 → Obeys p v s → ⊥
+    none q (first p a b) = omega arith
+    none q (second p a b) = omega arith
+    none q (odd p a b c) = omega arith
+    none q (even p a b c d) = omega arith
+
+-- number and ballot determine the answer
+pub one-answer : (n : ℕ) (l : List ℕ) (r s : Read) → numberRead r ≡ readNumber n l → ballotRead r ≡ readBallot n l → numberRead s ≡ readNumber n l → ballotRead s ≡ readBallot n l → r ≡ s
+one-answer n l (Accepted a) (Accepted b) nr br ns bs = ap Accepted (br ∙ sym bs)
+one-answer n l (Accepted a) (Refused k) nr br ns bs = absurd (accepted-not-zero n l (sym nr) (sym bs))
+one-answer n l (Refused j) (Accepted b) nr br ns bs = absurd (accepted-not-zero n l (sym ns) (sym br))
+one-answer n l (Refused j) (Refused k) nr br ns bs = ap Refused (nr ∙ sym ns)

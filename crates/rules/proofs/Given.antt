@@ -40,12 +40,14 @@ given ((k when t) ∷ lines) ((j exactly-when P) ∷ rows) m number = go t (m .1
   where
     go : (t : Bool) → Means t P → (firstThatApplies lines ≡ number) ↔ Given number rows
         → (cond t k (firstThatApplies lines) ≡ number) ↔ ((P × (number ≡ j)) ⊎ ((P → ⊥) × Given number rows))
-    go true p later =
-        (λ e. inl (p .0 refl, sym e ∙ m .0),
-        λ g. elim g [ inl x ↦ m .0 ∙ sym (x .1) | inr x ↦ absurd (x .0 (p .0 refl)) ])
-    go false p later =
-        (λ e. inr (false-not p refl, later .0 e),
-        λ g. elim g [ inl x ↦ never (p .1 (x .0)) | inr x ↦ later .1 (x .1) ])
+    go true p later = (
+      λ e. inl (p .0 refl, sym e ∙ m .0),
+      λ g. elim g [ inl x ↦ m .0 ∙ sym (x .1) | inr x ↦ absurd (x .0 (p .0 refl)) ],
+    )
+    go false p later = (
+      λ e. inr (false-not p refl, later .0 e),
+      λ g. elim g [ inl x ↦ never (p .1 (x .0)) | inr x ↦ later .1 (x .1) ],
+    )
 
 -- ---- start and reading
 
@@ -142,16 +144,39 @@ means-decides h =
 pub tick-given : (h : Head) (l : List ℕ) (coin number : ℕ) → (tickNumber h l coin ≡ number) ↔ Given number (tickTable h l coin)
 unfolding tickNumber
 tick-given h l coin =
-    given _ (tickTable h l coin)
-    (refl, means-not (means-sound h),
-    (refl, means-lt,
-    (refl, means-list,
-    (refl, means-some (means-breaks (h .n) l),
-    (refl, means-some (λ i. means-own h (ballotAt l i)),
-    (refl, means-contradicts h l,
-    (refl, means-both (gathered h l),
-    (refl, means-end (gathered h l),
-    (refl, means-decides (stepped (gathered h l) coin), tt)))))))))
+    given _ (tickTable h l coin) (
+      refl,
+      means-not (means-sound h),
+      (
+        refl,
+        means-lt,
+        (
+          refl,
+          means-list,
+          (
+            refl,
+            means-some (means-breaks (h .n) l),
+            (
+              refl,
+              means-some (λ i. means-own h (ballotAt l i)),
+              (
+                refl,
+                means-contradicts h l,
+                (
+                  refl,
+                  means-both (gathered h l),
+                  (
+                    refl,
+                    means-end (gathered h l),
+                    (refl, means-decides (stepped (gathered h l) coin), tt),
+                  ),
+                ),
+              ),
+            ),
+          ),
+        ),
+      ),
+    )
   where
     means-list : Means (notList l) ((length l % 5 ≡ 0 → ⊥) ⊎ (320 < length l))
     means-list = unfold notList in means-or (means-not (means-eq (length l % 5) 0)) means-lt

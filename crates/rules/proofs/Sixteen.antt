@@ -63,7 +63,6 @@ case4 = head 4 2 Blank u none
 abbrev case7 : Head
 case7 = head 3 3 One d ForOne
 
-
 unfoldable pub sixteen : List Case
 sixteen =
     -- 1
