@@ -56,7 +56,7 @@ unfolding startNumber
 start-given n own proposal =
     given _ (startTable n own proposal) (refl, means-or (means-heads n) (means-not means-lt), (refl, means-lt, tt))
 
-means-breaks : (n : ℕ) (l : List ℕ) (i : ℕ) → Means (breaksRule n l i) (Breaks n l i)
+pub means-breaks : (n : ℕ) (l : List ℕ) (i : ℕ) → Means (breaksRule n l i) (Breaks n l i)
 unfolding breaksRule
 means-breaks n l i = means-not (means-and means-lt (means-obeys (phaseAt l i) (getD l (i * 5 + 1) 0) (getD l (i * 5 + 2) 0)))
 

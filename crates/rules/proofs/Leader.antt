@@ -18,10 +18,10 @@ use Rattle.rules.proofs.Below.{first-le, first-at, first-holds, some-he
 
 -- ---- the order of ballots
 
-abbrev Ahead : Ballot → Ballot → Type 0
+abbrev pub Ahead : Ballot → Ballot → Type 0
 Ahead a b = (b .phase < a .phase) ⊎ ((a .phase ≡ b .phase) × (a .sender < b .sender))
 
-means-ahead : (a b : Ballot) → Means (ahead a b) (Ahead a b)
+pub means-ahead : (a b : Ballot) → Means (ahead a b) (Ahead a b)
 unfolding ahead
 means-ahead a b = means-or means-lt (means-and (means-eq (a .phase) (b .phase)) means-lt)
 

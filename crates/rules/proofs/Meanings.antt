@@ -23,7 +23,7 @@ use Rattle.rules.specs.Tick.{quorum, phasesEnd}
 use Rattle.rules.specs.Record.{decisionOf}
 use Rattle.rules.specs.Given.{Heads, Obeys, first, second, odd, even, Hears, Sound}
 use Rattle.rules.proofs.Truth.{Means, never, means-self, means-as, means-and, means-or, means-not, means-then, means-twice, means-lt, means-le, means-eq, means-code}
-use Rattle.rules.proofs.Sets.{means-none, means-any, means-within, means-apart}
+use Rattle.rules.proofs.Sets.{member-none, means-none, means-any, means-within, means-apart}
 
 -- ---- codes
 
@@ -279,6 +279,15 @@ means-sound h = go (notHeads (h .n)) refl
         (means-and (means-obeys (h .phase) (valueCode (h .value)) (statusCode (h .status)))
         (means-and (means-decision h)
         (means-and (means-sets h (few .1)) (means-and (means-phase h) (means-stands h (h .own) (h .value)))))))
+
+-- a head with empty sets hears nobody
+pub hears-nobody : (h : Head) → h .zeros ≡ 0 → h .ones ≡ 0 → h .blanks ≡ 0 → (v : Value) (s : ℕ) → Hears h v s → ⊥
+hears-nobody h z o b v s m = never (sym (member-none s) ∙ ap (member s) (sym (empty v)) ∙ m)
+  where
+    empty : (v : Value) → heard h v ≡ 0
+    empty Zero = z
+    empty One = o
+    empty Blank = b
 
 -- ---- the step
 

@@ -19,8 +19,8 @@ use Rattle.rules.specs.Tick.{ballots, leader, copying, moved, heardWith,
 use Rattle.rules.specs.Given.{Hears, SomeBallot}
 use Rattle.rules.proofs.Truth.{Means, never, means-as, means-self, means-and, means-or, means-eq}
 use Rattle.rules.proofs.Below.{means-some, not-some}
-use Rattle.rules.proofs.Sets.{member-none, member-high, member-setOf, setOf-lt}
-use Rattle.rules.proofs.Meanings.{means-value}
+use Rattle.rules.proofs.Sets.{member-high, member-setOf, setOf-lt}
+use Rattle.rules.proofs.Meanings.{means-value, hears-nobody}
 use Rattle.rules.proofs.Leader.{leader-leads, leader-highest}
 use Rattle.rules.proofs.Accepted.{Accepted, tick-accepted}
 
@@ -49,6 +49,18 @@ moves h l = go (some (ballots l) above) refl
     go false e =
         stays (ap (λ (t : Bool). cond t (copying h (ballotAt l (leader l))) h) e)
         (λ i b. ltb-false (h .phase) (ballotAt l i .phase) (not-some (ballots l) above e i b))
+
+-- step 2 keeps the vote, the own number and the decision
+pub moved-same : (h : Head) (l : List ℕ) → (moved h l .n ≡ h .n) × (moved h l .own ≡ h .own) × (moved h l .decision ≡ h .decision)
+moved-same h l = go (moves h l)
+  where
+    go : Moves h l → (moved h l .n ≡ h .n) × (moved h l .own ≡ h .own) × (moved h l .decision ≡ h .decision)
+    go (stays q f) = (ap (λ (k : Head). k .n) q, ap (λ (k : Head). k .own) q, ap (λ (k : Head). k .decision) q)
+    go (copies i b q u f) = (ap (λ (k : Head). k .n) q, ap (λ (k : Head). k .own) q, ap (λ (k : Head). k .decision) q)
+
+pub gathered-same : (h : Head) (l : List ℕ) → (gathered h l .n ≡ h .n) × (gathered h l .own ≡ h .own) × (gathered h l .decision ≡ h .decision)
+unfolding gathered added
+gathered-same h l = moved-same h l
 
 -- ---- step 1
 
@@ -92,14 +104,9 @@ HeldOrSent h l v s =
 held-then : (h : Head) (l : List ℕ) (v : Value) (s : ℕ) → Hears (moved h l) v s → (moved h l .phase ≡ h .phase) × Hears h v s
 held-then h l v s e = go (moves h l)
   where
-    empty : (v : Value) (b : Ballot) → heard (copying h b) v ≡ 0
-    empty Zero b = refl
-    empty One b = refl
-    empty Blank b = refl
-
     go : Moves h l → (moved h l .phase ≡ h .phase) × Hears h v s
     go (stays q f) = (ap (λ (k : Head). k .phase) q, subst (λ (k : Head). Hears k v s) q e)
-    go (copies i b q a f) = never (sym (member-none s) ∙ ap (member s) (sym (empty v (ballotAt l i))) ∙ subst (λ (k : Head). Hears k v s) q e)
+    go (copies i b q a f) = absurd (hears-nobody (copying h (ballotAt l i)) refl refl refl v s (subst (λ (k : Head). Hears k v s) q e))
 
 held-still : (h : Head) (l : List ℕ) (v : Value) (s : ℕ) → moved h l .phase ≡ h .phase → Hears h v s → Hears (moved h l) v s
 held-still h l v s same e = go (moves h l)
@@ -127,16 +134,11 @@ pub tick-hears : (h : Head) (l : List ℕ) (coin : ℕ) → tickNumber h l coin 
 unfolding tickOf settled stepped
 tick-hears h l coin e v s = rw e (go (quorum (gathered h l)) (heard-exactly h l coin (tick-accepted h l coin e) v s))
   where
-    nobody : (v : Value) → Hears (settled (risen (gathered h l) coin)) v s → ⊥
-    nobody Zero m = never (sym (member-none s) ∙ m)
-    nobody One m = never (sym (member-none s) ∙ m)
-    nobody Blank m = never (sym (member-none s) ∙ m)
-
     same : (v : Value) → heard (settled (gathered h l)) v ≡ heard (gathered h l) v
     same Zero = refl
     same One = refl
     same Blank = refl
 
     go : (t : Bool) → Hears (gathered h l) v s ↔ HeldOrSent h l v s → Hears (settled (cond t (risen (gathered h l) coin) (gathered h l))) v s ↔ ((t ≡ false) × HeldOrSent h l v s)
-    go true f = (λ m. absurd (nobody v m), λ r. absurd (true≢false (r .0)))
+    go true f = (λ m. absurd (hears-nobody (settled (risen (gathered h l) coin)) refl refl refl v s m), λ r. absurd (true≢false (r .0)))
     go false f = (λ m. (refl, f .0 (sym (ap (member s) (same v)) ∙ m)), λ r. ap (member s) (same v) ∙ f .1 (r .1))

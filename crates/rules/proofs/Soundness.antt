@@ -21,24 +21,17 @@ use Rattle.rules.specs.Heard.{member, heard}
 use Rattle.rules.specs.Head.{decisionFor, isDecided, fresh, sound, startNumber, startOf}
 use Rattle.rules.specs.Tick.{ballots, copying, moved, added, gathered, quorum, majority, bitWith, stepValue, stepStatus, risen, stepped, settled, tickNumber, tickOf}
 use Rattle.rules.specs.Given.{Heads, Obeys, first, second, odd, even, Hears, Sound, Quorum, DecidesOtherwise}
-use Rattle.rules.proofs.Truth.{never, means-lt, false-not}
-use Rattle.rules.proofs.Sets.{member-none}
-use Rattle.rules.proofs.Meanings.{means-value, means-decided, means-sound}
+use Rattle.rules.proofs.Truth.{means-lt, false-not, not-not}
+use Rattle.rules.proofs.Meanings.{means-value, means-decided, hears-nobody}
+use Rattle.rules.proofs.TheBit.{bit-code, bit-kept, coin-bit}
 use Rattle.rules.proofs.Accepted.{Accepted, Stands, value-code-back, start-accepted, tick-accepted}
-use Rattle.rules.proofs.Senders.{Moves, stays, copies, moves, Says, HeldOrSent, heard-from}
+use Rattle.rules.proofs.Senders.{Moves, stays, copies, moves, Says, HeldOrSent, gathered-same, heard-from}
 
 -- ---- small facts
 
-same-value? : (v w : Value) → Dec (v ≡ w)
-same-value? v w = go (sameValue v w) refl
-  where
-    go : (t : Bool) → sameValue v w ≡ t → Dec (v ≡ w)
-    go true e = yes (means-value v w .0 e)
-    go false e = no (false-not (means-value v w) e)
-
 -- two values that cannot differ are the same
 same-value : (v w : Value) → ((v ≡ w → ⊥) → ⊥) → v ≡ w
-same-value v w f = elim (same-value? v w) [ yes e ↦ e | no n ↦ absurd (f n) ]
+same-value v w = not-not (means-value v w)
 
 value-low : (v : Value) → valueCode v < 3
 value-low Zero = lit< tt
@@ -84,9 +77,7 @@ start-sound n own proposal e = let r = start-accepted n own proposal e in rw e (
         }
       where
         nobody : (v : Value) (s : ℕ) → Hears (fresh n own proposal) v s → ⊥
-        nobody Zero s m = never (sym (member-none s) ∙ m)
-        nobody One s m = never (sym (member-none s) ∙ m)
-        nobody Blank s m = never (sym (member-none s) ∙ m)
+        nobody = hears-nobody (fresh n own proposal) refl refl refl
 
 -- ---- steps 1 and 2
 
@@ -108,7 +99,7 @@ module _ (h : Head) (l : List ℕ) (coin : ℕ) (a : Accepted h l coin) where
       go (stays q f) = omega (arith, ap (λ (k : Head). k .phase) q)
       go (copies i b q u f) = omega (arith, ap (λ (k : Head). k .phase) q)
 
-  gathered-members : (v : Value) (s : ℕ) → Hears (gathered h l) v s → s < h .n
+  pub gathered-members : (v : Value) (s : ℕ) → Hears (gathered h l) v s → s < h .n
   gathered-members v s e = go (heard-from h l v s e)
     where
       go : HeldOrSent h l v s → s < h .n
@@ -116,7 +107,7 @@ module _ (h : Head) (l : List ℕ) (coin : ℕ) (a : Accepted h l coin) where
       go (inr x) = omega (arith, x .2 .1, a .stands (x .0) (x .1) .sender)
 
   -- nobody is heard under two values
-  gathered-disjoint : (v w : Value) (s : ℕ) → Hears (gathered h l) v s → Hears (gathered h l) w s → v ≡ w
+  pub gathered-disjoint : (v w : Value) (s : ℕ) → Hears (gathered h l) v s → Hears (gathered h l) w s → v ≡ w
   gathered-disjoint v w s p q = go (heard-from h l v s p) (heard-from h l w s q)
     where
       -- who is held under v sends no other value
@@ -159,16 +150,6 @@ module _ (h : Head) (l : List ℕ) (coin : ℕ) (a : Accepted h l coin) where
 
 -- ---- step 3
 
-bit-low : (p : Value → Bool) (other : Value) → valueCode other < 2 → valueCode (bitWith p other) < 2
-unfolding bitWith
-bit-low p other h = go (p Zero) (p One)
-  where
-    go : (s t : Bool) → valueCode (cond s (cond t other Zero) (cond t One other)) < 2
-    go true true = h
-    go true false = lit< tt
-    go false true = lit< tt
-    go false false = h
-
 -- a step keeps the rules, unless it is decided with a blank
 risen-rules : (g : Head) (coin : ℕ) → coin < 2 → Obeys (g .phase) (valueCode (g .value)) (statusCode (g .status))
     → (risen g coin .value ≡ Blank → risen g coin .status ≡ Undecided) → Obeys (risen g coin .phase) (valueCode (risen g coin .value)) (statusCode (risen g coin .status))
@@ -184,7 +165,7 @@ risen-rules g coin bit r blank = go r
     at-even : g .phase % 2 ≡ 0 → valueCode (stepValue g coin) < 2
     at-even o =
         unfold stepValue in
-        rw (ne-eqb (g .phase % 2) 1 (λ q. omega arith)) (bit-low _ (valueOf coin) (omega (arith, value-code-back coin (omega arith))))
+        rw (ne-eqb (g .phase % 2) 1 (λ q. omega arith)) (bit-code (bit-kept _ (valueOf coin) (coin-bit coin bit)))
 
     blank-open : valueCode (stepValue g coin) ≡ 2 → statusCode (stepStatus g) ≡ 0
     blank-open e = ap statusCode (blank (means-value (stepValue g coin) Blank .0 (eq-eqb _ _ e)))
@@ -262,15 +243,8 @@ tick-sound h l coin e = rw e (go (quorum (gathered h l)) (a .decides))
     a : Accepted h l coin
     a = tick-accepted h l coin e
 
-    kept : (moved h l .n ≡ h .n) × (moved h l .own ≡ h .own) × (moved h l .decision ≡ h .decision)
-    kept = go (moves h l)
-      where
-        go : Moves h l → (moved h l .n ≡ h .n) × (moved h l .own ≡ h .own) × (moved h l .decision ≡ h .decision)
-        go (stays q f) = (ap (λ (k : Head). k .n) q, ap (λ (k : Head). k .own) q, ap (λ (k : Head). k .decision) q)
-        go (copies i b q u f) = (ap (λ (k : Head). k .n) q, ap (λ (k : Head). k .own) q, ap (λ (k : Head). k .decision) q)
-
     same-vote : (gathered h l .n ≡ h .n) × (gathered h l .own ≡ h .own) × (gathered h l .decision ≡ h .decision)
-    same-vote = unfold gathered added in kept
+    same-vote = gathered-same h l
 
     ready : Ready (gathered h l)
     ready =
@@ -294,9 +268,7 @@ tick-sound h l coin e = rw e (go (quorum (gathered h l)) (a .decides))
         by Decided q = absurd (fits (q, inl b))
 
     nobody : (v : Value) (s : ℕ) → Hears (risen (gathered h l) coin) v s → ⊥
-    nobody Zero s m = never (sym (member-none s) ∙ m)
-    nobody One s m = never (sym (member-none s) ∙ m)
-    nobody Blank s m = never (sym (member-none s) ∙ m)
+    nobody = hears-nobody (risen (gathered h l) coin) refl refl refl
 
     ready-risen : (DecidesOtherwise (risen (gathered h l) coin) → ⊥) → Ready (risen (gathered h l) coin)
     ready-risen fits =

@@ -24,6 +24,23 @@ not-false {t} m f = go t refl
     go true e = absurd (f (m .0 e))
     go false e = e
 
+-- what a test means holds where it cannot fail to
+pub not-not : {t : Bool} {P : Type 0} → Means t P → ((P → ⊥) → ⊥) → P
+not-not {t} {P} m f = go t refl
+  where
+    go : (s : Bool) → t ≡ s → P
+    go true e = m .0 e
+    go false e = absurd (f (false-not m e))
+
+-- two tests that mean the same are the same
+pub means-same : {s t : Bool} {P : Type 0} → Means s P → Means t P → s ≡ t
+means-same {s} {t} {P} m k = go s t m k
+  where
+    go : (s t : Bool) → Means s P → Means t P → s ≡ t
+    go true t m k = sym (k .1 (m .0 refl))
+    go false true m k = m .1 (k .0 refl)
+    go false false m k = refl
+
 pub means-self : (t : Bool) → Means t (t ≡ true)
 means-self t = (λ e. e, λ e. e)
 

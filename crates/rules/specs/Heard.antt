@@ -22,6 +22,10 @@ setOf (suc k) p = cond (p 0) 1 0 + 2 * setOf k (λ s. p (suc s))
 unfoldable pub size : ℕ → ℕ
 size set = count 32 (λ s. member s set)
 
+-- "more than n/2": k, "doubled, exceeds n"
+abbrev pub overHalf : ℕ → ℕ → Bool
+overHalf n k = ltb n (k * 2)
+
 -- no head is in both sets
 unfoldable pub apart : ℕ → ℕ → Bool
 apart a b = not (some 32 (λ s. member s a && member s b))

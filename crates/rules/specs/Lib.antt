@@ -6,3 +6,7 @@ pub mod Head
 pub mod Tick
 pub mod Record
 pub mod Given
+pub mod Algorithm
+pub mod History
+pub mod Run
+pub mod Round

@@ -14,7 +14,7 @@ use Rattle.rules.specs.declared.Ticked.{Ticked}
 use Rattle.rules.specs.Number.{_when_, firstThatApplies}
 use Rattle.rules.specs.Below.{first, some}
 use Rattle.rules.specs.Ballot.{valueCode, valueOf, statusCode, sameValue, sameStatus, ballotAt, breaksRule}
-use Rattle.rules.specs.Heard.{member, setOf, size, heard, says}
+use Rattle.rules.specs.Heard.{member, setOf, size, overHalf, heard, says}
 use Rattle.rules.specs.Head.{decisionCode, decisionFor, isDecided, isWritten, decisionIsValue, anyHeard, standsUnder, sound, ballotOf}
 
 -- how many ballots a list of bytes holds
@@ -67,11 +67,11 @@ gathered h l = added (moved h l) l
 
 -- "the number of heads heard at the phase, doubled, exceeds n"
 unfoldable pub quorum : Head → Bool
-quorum h = ltb (h .n) ((size (h .zeros) + size (h .ones) + size (h .blanks)) * 2)
+quorum h = overHalf (h .n) (size (h .zeros) + size (h .ones) + size (h .blanks))
 
 -- v "was heard from more than n/2 heads"
 unfoldable pub majority : Head → Value → Bool
-majority h v = ltb (h .n) (size (heard h v) * 2)
+majority h v = overHalf (h .n) (size (heard h v))
 
 -- the value 0 or 1 of which p holds, else other; were it both, it would be neither
 unfoldable pub bitWith : (Value → Bool) → Value → Value

@@ -1,0 +1,63 @@
+-- Runs of a whole vote, as demand 3 has them: "Start n heads once each, numbered 0 to n - 1 .. Tick them in any order, with
+-- lists of at most 64 ballots that these heads sent earlier in the vote, any of them lost, late or repeated, and any coin
+-- bits."
+use Prim.Native.Nat.{ℕ, _*_, _%_, _≤_, _<_}
+use mathlib.Core.Path.{_≡_}
+use mathlib.Core.List.{List, [], _∷_}
+use mathlib.Core.Bool.{cond}
+use mathlib.Core.Logic.{_⊎_}
+use lib.ListN.{length, take, drop}
+use lib.Dec.{eqb}
+use Rattle.rules.specs.declared.Ballot.{Ballot}
+use Rattle.rules.specs.declared.Head.{Head}
+use Rattle.rules.specs.Ballot.{bytesOf}
+use Rattle.rules.specs.Head.{startOf, ballotOf}
+use Rattle.rules.specs.Tick.{ballots, tickNumber, tickOf}
+use Rattle.rules.specs.Given.{Heads}
+
+-- n heads, and what each proposes
+pub record Vote : Type 0 where
+  pub n : ℕ
+  pub proposal : ℕ → ℕ
+
+-- a vote of 2 to 32 heads, whose proposals are bits: its starts are accepted
+pub record Proper (vote : Vote) : Type 0 where
+  pub heads : Heads (vote .n)
+  pub bits : (s : ℕ) → s < vote .n → vote .proposal s < 2
+
+-- an event: which head is ticked, with which bytes and which coin
+pub record Event : Type 0 where
+  pub head : ℕ
+  pub bytes : List ℕ
+  pub coin : ℕ
+
+-- head s after the events, the last first
+abbrev pub headIn : Vote → List Event → ℕ → Head
+headIn vote [] s = startOf (vote .n) s (vote .proposal s) .head
+headIn vote (e ∷ events) s =
+    cond (eqb (e .head) s) (tickOf (headIn vote events s) (e .bytes) (e .coin) .head) (headIn vote events s)
+
+-- b was sent in the vote up to here: it is the ballot of a state that some head has or had, its start included
+abbrev pub Sent : Vote → List Event → Ballot → Type 0
+Sent vote [] b = (s : ℕ) × (s < vote .n) × (b ≡ ballotOf (headIn vote [] s))
+Sent vote (e ∷ events) b = ((s : ℕ) × (s < vote .n) × (b ≡ ballotOf (headIn vote (e ∷ events) s))) ⊎ Sent vote events b
+
+-- the five bytes at index i of a list
+abbrev pub fiveAt : List ℕ → ℕ → List ℕ
+fiveAt l i = take 5 (drop (i * 5) l)
+
+-- what demand 3 allows next
+pub record Allowed (vote : Vote) (events : List Event) (e : Event) : Type 0 where
+  pub head : e .head < vote .n
+  -- "lists of at most 64 ballots"
+  pub whole : length (e .bytes) % 5 ≡ 0
+  pub few : ballots (e .bytes) ≤ 64
+  -- "that these heads sent earlier in the vote"
+  pub sent : (i : ℕ) → i < ballots (e .bytes) → (b : Ballot) × Sent vote events b × (fiveAt (e .bytes) i ≡ bytesOf b)
+  -- "any coin bits"
+  pub bit : e .coin < 2
+
+-- a run: every event was allowed when it came
+abbrev pub Run : Vote → List Event → Type 0
+Run vote [] = Proper vote
+Run vote (e ∷ events) = Run vote events × Allowed vote events e
