@@ -1,23 +1,21 @@
 -- What an accepted start, reading and tick have shown: no line of the table applies.
 use Prim.Native.Nat.{ℕ, _+_, _*_, _%_, _≤_, _<_}
-use mathlib.Core.Path.{_≡_, refl, sym, ap, ap₂, subst, _∙_}
-use mathlib.Core.List.{List, [], _∷_}
-use mathlib.Core.Bool.{Bool, true, false, cond, _&&_, not}
-use mathlib.Core.Logic.{_⊎_, inl, inr}
-use native.Mathlib.Decide.{decLt, ℕ-discrete}
+use mathlib.Core.Path.{_≡_, refl, sym, subst}
+use mathlib.Core.List.{List, _∷_}
+use mathlib.Core.Bool.{Bool, true, false, not}
+use mathlib.Core.Logic.{inl, inr}
+use native.Mathlib.Decide.{decLt}
 use native.Mathlib.Omega.{arith}
 use lib.ListN.{length, getD}
 use lib.Dec.{ltb, eqb}
 use borrow.Author.Tests.{ltb-false, eqb-true, not-false}
-use Rattle.rules.specs.declared.Value.{Value}
-use Rattle.rules.specs.declared.Value.the-variants.{Zero, One, Blank}
+use Rattle.rules.specs.declared.Value.the-variants.{Zero, One}
 use Rattle.rules.specs.declared.Ballot.{Ballot}
 use Rattle.rules.specs.declared.Head.{Head}
 use Rattle.rules.specs.Number.{Line, _when_, firstThatApplies}
-use Rattle.rules.specs.Below.{some}
-use Rattle.rules.specs.Ballot.{valueCode, valueOf, statusCode, statusOf, phaseAt, ballotAt, obeys, breaksRule, notHeads, readNumber}
+use Rattle.rules.specs.Ballot.{valueCode, valueOf, statusCode, statusOf, phaseAt, ballotAt, breaksRule, notHeads, readNumber}
 use Rattle.rules.specs.Head.{startNumber}
-use Rattle.rules.specs.Tick.{ballots, gathered, stepped, notList, ownFromAhead, contradicts, tickNumber}
+use Rattle.rules.specs.Tick.{ballots, gathered, stepped, notList, ownFromAhead, tickNumber}
 use Rattle.rules.specs.Given.{Heads, Obeys, first, second, odd, even, Sound, OwnFromAhead, Differ, HeldOtherwise, HeardAtAll, Quorum, DecidesOtherwise}
 use Rattle.rules.proofs.Truth.{means-and, means-lt, or-left-false, or-right-false, false-not}
 use Rattle.rules.proofs.Below.{not-some}

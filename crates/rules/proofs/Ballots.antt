@@ -2,25 +2,22 @@
 use Prim.Native.Nat.{ℕ, zero, suc, _+_, _*_, _/_, _%_, _<_}
 use mathlib.Core.Path.{_≡_, refl, sym, ap, _∙_}
 use mathlib.Core.List.{List, [], _∷_}
-use mathlib.Core.Bool.{Bool, true, false, cond, not}
+use mathlib.Core.Bool.{true, false}
 use native.Mathlib.Nat.{div-add-mod'}
 use native.Mathlib.Omega.{arith}
 use lib.ListN.{length, getD}
-use lib.Dec.{eqb, ltb}
-use borrow.Author.Tests.{lt-ltb, eq-eqb}
-use Rattle.rules.specs.declared.Value.{Value}
-use Rattle.rules.specs.declared.Status.{Status}
+use borrow.Author.Tests.{lt-ltb}
 use Rattle.rules.specs.declared.Ballot.{Ballot}
 use Rattle.rules.specs.declared.Head.{Head}
 use Rattle.rules.specs.declared.Read.{Read}
 use Rattle.rules.specs.declared.Read.the-variants.{Accepted, Refused}
 use Rattle.rules.specs.Number.{firstThatApplies}
-use Rattle.rules.specs.Ballot.{valueCode, statusCode, phaseAt, ballotAt, bytesOf, notHeads, breaksRule, readNumber, readBallot, zeroBallot, numberRead, ballotRead}
+use Rattle.rules.specs.Ballot.{valueCode, statusCode, ballotAt, bytesOf, breaksRule, readNumber, readBallot, zeroBallot, numberRead, ballotRead}
 use Rattle.rules.specs.Head.{sound, ballotOf, sendOf}
 use Rattle.rules.specs.Given.{Heads, Obeys, first, second, odd, even}
 use Rattle.rules.proofs.Truth.{not-false}
 use Rattle.rules.proofs.Meanings.{value-back, status-back, means-heads, means-obeys, means-sound}
-use Rattle.rules.proofs.Accepted.{Stands, Codes, ReadsWell, read-accepted}
+use Rattle.rules.proofs.Accepted.{Stands, ReadsWell, read-accepted}
 
 -- the bytes of a ballot hold it
 pub bytes-hold : (b : Ballot) → ballotAt (bytesOf b) 0 ≡ b

@@ -1,14 +1,13 @@
 -- A written decision stays through every tick, whatever it is handed.
 use Prim.Native.Nat.{ℕ}
-use mathlib.Core.Path.{_≡_, refl, sym, ap, _∙_}
+use mathlib.Core.Path.{_≡_, refl, sym, _∙_}
 use mathlib.Core.List.{List}
 use mathlib.Core.Bool.{Bool, true, false, cond}
-use mathlib.Core.Logic.{_⊎_, inl, inr}
+use mathlib.Core.Logic.{inr}
 use native.Mathlib.Decide.{ℕ-discrete}
 use lib.Dec.{eqb}
 use borrow.Author.Tests.{ne-eqb}
 use Rattle.rules.specs.declared.Status.the-variants.{Decided}
-use Rattle.rules.specs.declared.Decision.{Decision}
 use Rattle.rules.specs.declared.Decision.the-variants.{Unwritten}
 use Rattle.rules.specs.declared.Head.{Head}
 use Rattle.rules.specs.Ballot.{valueCode}

@@ -1,30 +1,33 @@
--- Demands 2 and 3. Read this page first: each theorem below answers the sentence above it, over the definitions that the
--- engine's promises cite. Specs: Algorithm and History for demand 2, Run and Round for demand 3.
+-- The demands. Read this page first: each theorem below answers the sentence above it, over the definitions that the
+-- engine's promises cite. Specs: Given and Record for demand 1, Algorithm and History for demand 2, Run and Round for
+-- demand 3.
 use Prim.Native.Nat.{ℕ, _*_, _<_}
-use mathlib.Core.Path.{_≡_, refl, sym, ap, subst, _∙_}
+use mathlib.Core.Path.{_≡_, refl, sym, ap, _∙_}
 use mathlib.Core.List.{List, [], _∷_, _++_}
 use mathlib.Core.Bool.{Bool, true, false, cond}
-use mathlib.Core.Logic.{_⊎_, inl, inr}
+use mathlib.Core.Logic.{_⊎_, _↔_}
 use native.Mathlib.Omega.{arith}
 use lib.Dec.{eqb}
+use borrow.Author.Tests.{ne-eqb}
 use Rattle.rules.specs.declared.Value.{Value}
 use Rattle.rules.specs.declared.Value.the-variants.{Zero, One, Blank}
 use Rattle.rules.specs.declared.Status.the-variants.{Decided}
-use Rattle.rules.specs.declared.Decision.{Decision}
 use Rattle.rules.specs.declared.Decision.the-variants.{Unwritten}
 use Rattle.rules.specs.declared.Ballot.{Ballot}
 use Rattle.rules.specs.declared.Head.{Head}
 use Rattle.rules.specs.Below.{some, count}
 use Rattle.rules.specs.Ballot.{valueOf, sameValue, readNumber, readBallot}
-use Rattle.rules.specs.Head.{decisionFor, sound, ballotOf, sendOf}
+use Rattle.rules.specs.Head.{decisionFor, sound, startNumber, ballotOf, sendOf}
 use Rattle.rules.specs.Tick.{gathered, tickNumber, tickOf}
-use Rattle.rules.specs.Given.{Sound, Quorum}
+use Rattle.rules.specs.Record.{startsNumber, startsRecord, ticksNumber, ticksRecord}
+use Rattle.rules.specs.Given.{Given, startTable, readTable, tickTable, Sound, Quorum}
 use Rattle.rules.specs.History.{Handed, headAfter, AllAccepted, processAfter, Shows}
 use Rattle.rules.specs.Run.{Vote, Proper, Event, headIn, Sent, Run}
 use Rattle.rules.specs.Round.{Channel, round, lossless}
 use Rattle.rules.proofs.Truth.{false-not}
 use Rattle.rules.proofs.Below.{means-some, not-some}
 use Rattle.rules.proofs.Meanings.{means-value}
+use Rattle.rules.proofs.Given.{start-given, read-given, tick-given}
 use Rattle.rules.proofs.Ballots.{Bytes, sent-reads-back, one-ballot-one-writing}
 use Rattle.rules.proofs.AsAlgorithm.{as-algorithm-1}
 use Rattle.rules.proofs.Rounds.{round-is-run}
@@ -37,6 +40,32 @@ use Rattle.rules.proofs.TheBit.{Bit, zero-bit, one-bit}
 
 abbrev Written : Head → Type 0
 Written h = h .decision ≡ Unwritten → ⊥
+
+-- ---- Demand 1
+
+-- "Bad input is refused by the first number that applies": document 01's table, line by line (specs/Given)
+pub a-start-is-refused-by-the-first-number-that-applies : (n own proposal number : ℕ) → (startNumber n own proposal ≡ number) ↔ Given number (startTable n own proposal)
+a-start-is-refused-by-the-first-number-that-applies = start-given
+
+pub a-reading-is-refused-by-the-first-number-that-applies : (n : ℕ) (bytes : List ℕ) (number : ℕ) → (readNumber n bytes ≡ number) ↔ Given number (readTable n bytes)
+a-reading-is-refused-by-the-first-number-that-applies = read-given
+
+pub a-tick-is-refused-by-the-first-number-that-applies : (h : Head) (l : List ℕ) (coin number : ℕ) → (tickNumber h l coin ≡ number) ↔ Given number (tickTable h l coin)
+a-tick-is-refused-by-the-first-number-that-applies = tick-given
+
+-- "A refused tick returns the head as it came"
+pub a-refused-tick-returns-the-head-as-it-came : (h : Head) (l : List ℕ) (coin : ℕ) → (tickNumber h l coin ≡ 0 → ⊥) → tickOf h l coin .head ≡ h
+unfolding tickOf
+a-refused-tick-returns-the-head-as-it-came h l coin n = rw (ne-eqb (tickNumber h l coin) 0 n)
+
+-- "no byte of a lent record .. changes"
+pub a-refused-tick-changes-no-byte : (r l : List ℕ) (coin : ℕ) → (ticksNumber r l coin ≡ 0 → ⊥) → ticksRecord r l coin ≡ r
+unfolding ticksRecord
+a-refused-tick-changes-no-byte r l coin n = rw (ne-eqb (ticksNumber r l coin) 0 n)
+
+pub a-refused-start-changes-no-byte : (r : List ℕ) (n own proposal : ℕ) → (startsNumber r n own proposal ≡ 0 → ⊥) → startsRecord r n own proposal ≡ r
+unfolding startsRecord
+a-refused-start-changes-no-byte r n own proposal f = rw (ne-eqb (startsNumber r n own proposal) 0 f)
 
 -- ---- Demand 2
 

@@ -1,24 +1,23 @@
 -- Document 01's table 'given exactly when', proved: a start's, a reading's and a tick's number is k exactly when k's line
 -- of the table holds and no earlier one does.
 use Prim.Native.Nat.{ℕ, _+_, _*_, _%_, _≤_, _<_}
-use mathlib.Core.Path.{_≡_, refl, sym, ap, _∙_}
+use mathlib.Core.Path.{_≡_, refl, sym, _∙_}
 use mathlib.Core.List.{List, [], _∷_}
 use mathlib.Core.Bool.{Bool, true, false, cond, _&&_, _||_, not}
 use mathlib.Core.Logic.{_⊎_, inl, inr, _↔_}
 use lib.ListN.{length, getD}
-use lib.Dec.{ltb, leb, eqb}
 use Rattle.rules.specs.declared.Value.{Value}
 use Rattle.rules.specs.declared.Value.the-variants.{Zero, One, Blank}
 use Rattle.rules.specs.declared.Ballot.{Ballot}
 use Rattle.rules.specs.declared.Head.{Head}
 use Rattle.rules.specs.Number.{Line, _when_, firstThatApplies}
 use Rattle.rules.specs.Below.{some}
-use Rattle.rules.specs.Ballot.{phaseAt, ballotAt, breaksRule, notHeads, readNumber, sameValue}
+use Rattle.rules.specs.Ballot.{phaseAt, ballotAt, breaksRule, readNumber, sameValue}
 use Rattle.rules.specs.Heard.{member, heard}
 use Rattle.rules.specs.Head.{heardAs, standsUnder, ballotOf, startNumber}
 use Rattle.rules.specs.Tick.{ballots, gathered, stepped, quorum, notList, sameState, ownFromAhead, differ, heldOtherwise, contradicts, bothHeard, phasesEnd, decidesOtherwise, tickNumber}
 use Rattle.rules.specs.Given.{Row, _exactly-when_, Given, Breaks, Hears, Other, OwnFromAhead, Differ, HeldOtherwise, SomeBallot, TwoBallots, HeardAtAll, Quorum, DecidesOtherwise, startTable, readTable, tickTable}
-use Rattle.rules.proofs.Truth.{Means, never, means-self, means-as, means-and, means-or, means-not, means-not-both, means-lt, means-le, means-eq, false-not, not-false}
+use Rattle.rules.proofs.Truth.{Means, never, means-as, means-and, means-or, means-not, means-not-both, means-lt, means-le, means-eq, false-not}
 use Rattle.rules.proofs.Below.{means-some}
 use Rattle.rules.proofs.Sets.{means-any}
 use Rattle.rules.proofs.Meanings.{means-value, means-status, means-decided, means-written, means-for, means-heads, means-obeys, means-stands, means-sound}

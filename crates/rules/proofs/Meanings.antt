@@ -1,9 +1,8 @@
 -- What the tests of a ballot and of a head mean, in the propositions of Given.
 use Prim.Native.Nat.{ℕ, zero, suc, _+_, _%_, _≤_, _<_}
 use mathlib.Core.Path.{_≡_, refl, sym, ap, subst, _∙_}
-use mathlib.Core.Bool.{Bool, true, false, cond, _&&_, _||_, not}
-use mathlib.Core.Logic.{_⊎_, inl, inr}
-use native.Mathlib.Decide.{decLt, ℕ-discrete}
+use mathlib.Core.Bool.{Bool, true, false, cond, _&&_, not}
+use native.Mathlib.Decide.{ℕ-discrete}
 use native.Mathlib.Omega.{arith}
 use lib.Dec.{ltb, leb, eqb, lit<}
 use borrow.Author.Tests.{eq-eqb, ne-eqb, eqb-true, leb-false}
@@ -14,15 +13,15 @@ use Rattle.rules.specs.declared.Status.the-variants.{Undecided, Decided}
 use Rattle.rules.specs.declared.Decision.{Decision}
 use Rattle.rules.specs.declared.Decision.the-variants.{Zero as ForZero, One as ForOne, Unwritten}
 use Rattle.rules.specs.declared.Class.{Class}
-use Rattle.rules.specs.declared.Class.the-variants.{Never, First, Second, Odd, Even}
+use Rattle.rules.specs.declared.Class.the-variants.{Odd, Even}
 use Rattle.rules.specs.declared.Head.{Head}
 use Rattle.rules.specs.Ballot.{valueCode, valueOf, statusCode, statusOf, sameValue, sameStatus, classOf, allowed, obeys, notHeads}
-use Rattle.rules.specs.Heard.{member, apart, within, heard}
-use Rattle.rules.specs.Head.{decisionCode, decisionFor, isDecided, isWritten, decisionIsValue, noneHeard, anyHeard, heardAs, standsUnder, decisionFits, setsFit, phaseFits, sound}
+use Rattle.rules.specs.Heard.{member, heard}
+use Rattle.rules.specs.Head.{decisionCode, decisionFor, isDecided, isWritten, heardAs, standsUnder, decisionFits, setsFit, phaseFits, sound}
 use Rattle.rules.specs.Tick.{quorum, phasesEnd}
 use Rattle.rules.specs.Record.{decisionOf}
 use Rattle.rules.specs.Given.{Heads, Obeys, first, second, odd, even, Hears, Sound}
-use Rattle.rules.proofs.Truth.{Means, never, means-self, means-as, means-and, means-or, means-not, means-then, means-twice, means-lt, means-le, means-eq, means-code}
+use Rattle.rules.proofs.Truth.{Means, never, means-self, means-as, means-and, means-not, means-then, means-twice, means-lt, means-le, means-eq, means-code}
 use Rattle.rules.proofs.Sets.{member-none, means-none, means-any, means-within, means-apart}
 
 -- ---- codes

@@ -1,32 +1,30 @@
 -- One allowed event of a run: what its tick finds, and that it is not refused unless its step needs phase 65,536.
-use Prim.Native.Nat.{ℕ, zero, suc, _+_, _*_, _%_, _≤_, _<_}
+use Prim.Native.Nat.{ℕ, suc, _+_, _*_, _%_, _≤_, _<_}
 use mathlib.Core.Path.{_≡_, refl, sym, ap, subst, _∙_}
-use mathlib.Core.List.{List, [], _∷_}
+use mathlib.Core.List.{List}
 use mathlib.Core.Bool.{Bool, true, false, cond, _||_}
 use mathlib.Core.Logic.{_⊎_, inl, inr}
 use native.Mathlib.Decide.{decLt, ℕ-discrete}
 use native.Mathlib.Omega.{arith}
 use lib.ListN.{length}
-use lib.Dec.{ltb, leb, eqb, lit<}
+use lib.Dec.{ltb, eqb, lit<}
 use borrow.Author.Tests.{eq-eqb, ne-eqb, ltb-true, eqb-true}
 use Rattle.rules.specs.declared.Value.{Value}
 use Rattle.rules.specs.declared.Value.the-variants.{Zero, One, Blank}
 use Rattle.rules.specs.declared.Status.{Status}
-use Rattle.rules.specs.declared.Status.the-variants.{Undecided, Decided}
-use Rattle.rules.specs.declared.Decision.{Decision}
+use Rattle.rules.specs.declared.Status.the-variants.{Decided}
 use Rattle.rules.specs.declared.Decision.the-variants.{Unwritten}
 use Rattle.rules.specs.declared.Ballot.{Ballot}
 use Rattle.rules.specs.declared.Head.{Head}
 use Rattle.rules.specs.Below.{count}
-use Rattle.rules.specs.Ballot.{valueCode, valueOf, ballotAt, bytesOf, breaksRule}
+use Rattle.rules.specs.Ballot.{valueCode, valueOf, ballotAt, breaksRule}
 use Rattle.rules.specs.Heard.{member, size, heard}
 use Rattle.rules.specs.Head.{decisionFor, anyHeard, ballotOf}
-use Rattle.rules.specs.Tick.{ballots, copying, moved, added, gathered, quorum, majority, bitWith, stepValue, stepStatus, risen, stepped, tickNumber}
-use Rattle.rules.specs.Given.{Heads, Breaks, Hears, Sound, OwnFromAhead, Differ, HeldOtherwise, SomeBallot, TwoBallots, HeardAtAll, Quorum, DecidesOtherwise, Given, tickTable}
+use Rattle.rules.specs.Tick.{ballots, moved, added, gathered, quorum, majority, bitWith, stepValue, stepStatus, risen, stepped, tickNumber}
+use Rattle.rules.specs.Given.{Heads, Breaks, Hears, Sound, OwnFromAhead, Differ, HeldOtherwise, SomeBallot, TwoBallots, HeardAtAll, Quorum, DecidesOtherwise}
 use Rattle.rules.specs.Run.{Vote, Event, headIn, Sent, Allowed}
-use Rattle.rules.proofs.Truth.{Means, never, means-self, means-or, means-lt, false-not}
+use Rattle.rules.proofs.Truth.{Means, means-self, means-or, means-lt, false-not}
 use Rattle.rules.proofs.Sets.{means-any}
-use Rattle.rules.proofs.Meanings.{means-value}
 use Rattle.rules.proofs.Given.{means-breaks, tick-given}
 use Rattle.rules.proofs.Accepted.{Stands}
 use Rattle.rules.proofs.Senders.{Moves, stays, copies, moves, gathered-same, HeldOrSent, heard-from}

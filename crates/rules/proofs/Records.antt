@@ -1,8 +1,8 @@
 -- A head's record reads back, and a record is the only one for its head.
-use Prim.Native.Nat.{ℕ, zero, suc, _+_, _*_, _/_, _%_, _^_, _<_}
-use mathlib.Core.Path.{_≡_, refl, sym, ap, _∙_}
-use mathlib.Core.List.{List, [], _∷_}
-use mathlib.Core.Bool.{Bool, true, false, _&&_}
+use Prim.Native.Nat.{ℕ, zero, suc, _+_, _*_, _/_, _%_, _<_}
+use mathlib.Core.Path.{_≡_, refl, sym, _∙_}
+use mathlib.Core.List.{List}
+use mathlib.Core.Bool.{true, _&&_}
 use native.Mathlib.Nat.{div-add-mod'}
 use native.Mathlib.Omega.{arith}
 use lib.ListN.{length, getD}
@@ -15,9 +15,9 @@ use Rattle.rules.specs.declared.Status.the-variants.{Undecided, Decided}
 use Rattle.rules.specs.declared.Decision.{Decision}
 use Rattle.rules.specs.declared.Decision.the-variants.{Zero as ForZero, One as ForOne, Unwritten}
 use Rattle.rules.specs.declared.Head.{Head}
-use Rattle.rules.specs.Ballot.{valueCode, valueOf, statusCode, statusOf}
+use Rattle.rules.specs.Ballot.{valueCode, statusCode}
 use Rattle.rules.specs.Head.{decisionCode}
-use Rattle.rules.specs.Record.{recordOf, isRecord, decisionOf, wordAt, headAt}
+use Rattle.rules.specs.Record.{recordOf, isRecord, decisionOf, headAt}
 use Rattle.rules.proofs.Truth.{and-left, and-right}
 use Rattle.rules.proofs.Meanings.{value-back, status-back, decision-back}
 use Rattle.rules.proofs.Accepted.{value-code-back, status-code-back}

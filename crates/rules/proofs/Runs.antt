@@ -1,38 +1,34 @@
 -- What holds at every world of every run.
-use Prim.Native.Nat.{ℕ, zero, suc, _+_, _≤_, _<_}
+use Prim.Native.Nat.{ℕ, _≤_, _<_}
 use mathlib.Core.Path.{_≡_, refl, sym, ap, subst, _∙_}
 use mathlib.Core.List.{List, [], _∷_}
 use mathlib.Core.Bool.{Bool, true, false, cond}
 use mathlib.Core.Logic.{_⊎_, inl, inr}
 use native.Mathlib.Decide.{ℕ-discrete}
 use native.Mathlib.Omega.{arith}
-use lib.Dec.{eqb, lit<}
 use borrow.Author.Tests.{eq-eqb, ne-eqb}
 use Rattle.rules.specs.declared.Value.{Value}
 use Rattle.rules.specs.declared.Value.the-variants.{Zero, One, Blank}
-use Rattle.rules.specs.declared.Status.{Status}
-use Rattle.rules.specs.declared.Status.the-variants.{Undecided, Decided}
-use Rattle.rules.specs.declared.Decision.{Decision}
+use Rattle.rules.specs.declared.Status.the-variants.{Decided}
 use Rattle.rules.specs.declared.Decision.the-variants.{Unwritten}
 use Rattle.rules.specs.declared.Ballot.{Ballot}
 use Rattle.rules.specs.declared.Head.{Head}
-use Rattle.rules.specs.Ballot.{valueCode, valueOf, statusCode}
-use Rattle.rules.specs.Heard.{member, heard}
-use Rattle.rules.specs.Head.{decisionFor, isDecided, startNumber, startOf, fresh, ballotOf}
-use Rattle.rules.specs.Tick.{moved, added, gathered, quorum, risen, stepped, settled, tickNumber, tickOf}
-use Rattle.rules.specs.Given.{Heads, Hears, Sound, Quorum}
+use Rattle.rules.specs.Ballot.{valueOf}
+use Rattle.rules.specs.Heard.{heard}
+use Rattle.rules.specs.Head.{decisionFor, isDecided, fresh, ballotOf}
+use Rattle.rules.specs.Tick.{added, gathered, quorum, risen, stepped, settled, tickNumber, tickOf}
+use Rattle.rules.specs.Given.{Hears, Sound, Quorum}
 use Rattle.rules.specs.Run.{Vote, Proper, Event, headIn, Sent, Allowed, Run}
 use Rattle.rules.proofs.Truth.{means-lt}
 use Rattle.rules.proofs.Meanings.{means-decided, hears-nobody}
 use Rattle.rules.proofs.Starts.{start-taken, start-head}
 use Rattle.rules.proofs.TheBit.{Bit, coin-bit}
-use Rattle.rules.proofs.Given.{means-end}
 use Rattle.rules.proofs.Accepted.{Stands, tick-accepted}
 use Rattle.rules.proofs.Senders.{gathered-same}
 use Rattle.rules.proofs.Soundness.{start-sound, tick-sound}
-use Rattle.rules.proofs.Ledger.{Voted, Ledger, Fits, ledger-with}
+use Rattle.rules.proofs.Ledger.{Voted, Fits, ledger-with}
 use Rattle.rules.proofs.Rounds.{sent-now}
-use Rattle.rules.proofs.OneEvent.{two-phases, Kept, moved-state, moved-later, heard-voted, next, fits-next, decides-alike, event-number}
+use Rattle.rules.proofs.OneEvent.{two-phases, Kept, moved-state, moved-later, heard-voted, next, fits-next, event-number}
 
 -- ---- the starts
 

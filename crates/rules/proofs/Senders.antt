@@ -1,8 +1,8 @@
 -- Steps 1 and 2: whom a head hears afterwards. "The three sets counted by sender."
-use Prim.Native.Nat.{ℕ, _+_, _^_, _≤_, _<_}
+use Prim.Native.Nat.{ℕ, _^_, _≤_, _<_}
 use mathlib.Core.Path.{_≡_, refl, sym, ap, subst, _∙_}
 use mathlib.Core.List.{List}
-use mathlib.Core.Bool.{Bool, true, false, cond, _&&_, _||_, true≢false}
+use mathlib.Core.Bool.{Bool, true, false, cond, _||_, true≢false}
 use mathlib.Core.Logic.{_⊎_, inl, inr, _↔_}
 use native.Mathlib.Decide.{decLt}
 use native.Mathlib.Omega.{arith}
@@ -14,7 +14,7 @@ use Rattle.rules.specs.declared.Ballot.{Ballot}
 use Rattle.rules.specs.declared.Head.{Head}
 use Rattle.rules.specs.Below.{some}
 use Rattle.rules.specs.Ballot.{ballotAt}
-use Rattle.rules.specs.Heard.{member, setOf, heard, says}
+use Rattle.rules.specs.Heard.{member, heard, says}
 use Rattle.rules.specs.Tick.{ballots, leader, copying, moved, heardWith, added, gathered, quorum, risen, stepped, settled, tickNumber, tickOf}
 use Rattle.rules.specs.Given.{Hears, SomeBallot}
 use Rattle.rules.proofs.Truth.{Means, never, means-as, means-self, means-and, means-or, means-eq}

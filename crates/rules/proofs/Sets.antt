@@ -1,12 +1,12 @@
 -- Laws of sets of head numbers: members, the set of a test, unions, sizes.
 use Prim.Native.Nat.{ℕ, zero, suc, _+_, _*_, _/_, _%_, _^_, _≤_, _<_, min, max}
-use mathlib.Core.Path.{_≡_, refl, sym, ap, ap₂, subst, _∙_}
+use mathlib.Core.Path.{_≡_, refl, sym, ap, ap₂, _∙_}
 use mathlib.Core.Bool.{Bool, true, false, cond, _&&_, _||_, not}
 use native.Mathlib.Nat.{pow-suc, one-mul}
 use native.Mathlib.Numerals.{one-add}
 use native.Mathlib.Decide.{decLt}
 use native.Mathlib.Omega.{arith}
-use lib.Dec.{eqb, ltb, lit<, eqb·zero-suc, eqb·suc-zero, eqb·suc-suc}
+use lib.Dec.{eqb, lit<, eqb·zero-suc, eqb·suc-zero, eqb·suc-suc}
 use lib.Pow.{shl-exact, shl-shr, shr-shr, shr-le, shr-mono, pow-lt}
 use lib.Bits.{bitAnd, bitOr, and-step, or-step, or-lt, and-lt, or-shr, and-shr}
 use lib.Count.{ones, onesIn, ones-step}
@@ -14,7 +14,7 @@ use borrow.Author.Tests.{eq-eqb, ne-eqb, eqb-true, eqb-false, lt-ltb, ltb-true}
 use Rattle.rules.specs.Below.{some, count}
 use Rattle.rules.specs.Heard.{member, setOf, size, apart, within}
 use Rattle.rules.proofs.Truth.{Means, never, means-self, means-as, means-and, means-not}
-use Rattle.rules.proofs.Below.{count-same, count-low, count-le, some-not, not-some, means-some}
+use Rattle.rules.proofs.Below.{count-same, count-low, count-le, not-some, means-some}
 
 -- ---- members
 

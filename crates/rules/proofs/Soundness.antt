@@ -2,29 +2,26 @@
 use Prim.Native.Nat.{ℕ, _+_, _%_, _≤_, _<_}
 use mathlib.Core.Path.{_≡_, refl, sym, ap, subst, _∙_}
 use mathlib.Core.List.{List}
-use mathlib.Core.Bool.{Bool, true, false, cond, _&&_, _||_, not, true≢false}
-use mathlib.Core.Logic.{_⊎_, inl, inr}
-use native.Mathlib.Decide.{ℕ-discrete}
+use mathlib.Core.Bool.{Bool, true, false, cond}
+use mathlib.Core.Logic.{inl, inr}
 use native.Mathlib.Omega.{arith}
-use lib.Dec.{eqb, ltb, lit<}
-use borrow.Author.Tests.{eq-eqb, ne-eqb, ltb-true}
+use lib.Dec.{lit<}
+use borrow.Author.Tests.{eq-eqb, ne-eqb}
 use Rattle.rules.specs.declared.Value.{Value}
 use Rattle.rules.specs.declared.Value.the-variants.{Zero, One, Blank}
 use Rattle.rules.specs.declared.Status.{Status}
 use Rattle.rules.specs.declared.Status.the-variants.{Undecided, Decided}
 use Rattle.rules.specs.declared.Decision.{Decision}
 use Rattle.rules.specs.declared.Decision.the-variants.{Unwritten}
-use Rattle.rules.specs.declared.Ballot.{Ballot}
 use Rattle.rules.specs.declared.Head.{Head}
-use Rattle.rules.specs.Ballot.{valueCode, valueOf, statusCode, sameValue, ballotAt}
-use Rattle.rules.specs.Heard.{member, heard}
+use Rattle.rules.specs.Ballot.{valueCode, valueOf, statusCode, ballotAt}
 use Rattle.rules.specs.Head.{decisionFor, isDecided, fresh, sound, startNumber, startOf}
-use Rattle.rules.specs.Tick.{ballots, copying, moved, added, gathered, quorum, majority, bitWith, stepValue, stepStatus, risen, stepped, settled, tickNumber, tickOf}
-use Rattle.rules.specs.Given.{Heads, Obeys, first, second, odd, even, Hears, Sound, Quorum, DecidesOtherwise}
-use Rattle.rules.proofs.Truth.{means-lt, false-not, not-not}
+use Rattle.rules.specs.Tick.{ballots, moved, added, gathered, quorum, stepValue, stepStatus, risen, stepped, settled, tickNumber, tickOf}
+use Rattle.rules.specs.Given.{Heads, Obeys, first, second, odd, even, Hears, Sound, DecidesOtherwise}
+use Rattle.rules.proofs.Truth.{false-not, not-not}
 use Rattle.rules.proofs.Meanings.{means-value, means-decided, hears-nobody}
 use Rattle.rules.proofs.TheBit.{bit-code, bit-kept, coin-bit}
-use Rattle.rules.proofs.Accepted.{Accepted, Stands, value-code-back, start-accepted, tick-accepted}
+use Rattle.rules.proofs.Accepted.{Accepted, value-code-back, start-accepted, tick-accepted}
 use Rattle.rules.proofs.Senders.{Moves, stays, copies, moves, Says, HeldOrSent, gathered-same, heard-from}
 
 -- ---- small facts

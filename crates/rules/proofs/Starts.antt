@@ -4,7 +4,6 @@ use mathlib.Core.Path.{_≡_, refl}
 use mathlib.Core.List.{[]}
 use mathlib.Core.Logic.{inl, inr}
 use native.Mathlib.Omega.{arith}
-use Rattle.rules.specs.declared.Head.{Head}
 use Rattle.rules.specs.Head.{startNumber, startOf, fresh}
 use Rattle.rules.specs.Run.{Vote, Proper, headIn}
 use Rattle.rules.proofs.Given.{start-given}

@@ -8,8 +8,7 @@ use lib.ListN.{length, getD}
 use Rattle.rules.specs.declared.Value.{Value}
 use Rattle.rules.specs.declared.Value.the-variants.{Zero, One, Blank}
 use Rattle.rules.specs.declared.Status.{Status}
-use Rattle.rules.specs.declared.Status.the-variants.{Undecided, Decided}
-use Rattle.rules.specs.declared.Decision.{Decision}
+use Rattle.rules.specs.declared.Status.the-variants.{Decided}
 use Rattle.rules.specs.declared.Decision.the-variants.{Unwritten}
 use Rattle.rules.specs.declared.Ballot.{Ballot}
 use Rattle.rules.specs.declared.Head.{Head}

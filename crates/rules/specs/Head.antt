@@ -1,12 +1,11 @@
 -- Heads: soundness, the start, and what a head sends. Document 01, 'Heads and ballots'.
 use Prim.Native.Nat.{ℕ, _%_}
-use mathlib.Core.List.{List, [], _∷_}
-use mathlib.Core.Bool.{Bool, true, false, cond, _&&_, _||_, not}
+use mathlib.Core.List.{[], _∷_}
+use mathlib.Core.Bool.{Bool, cond, _&&_, _||_, not}
 use lib.Dec.{ltb, leb, eqb}
 use Rattle.rules.specs.declared.Value.{Value}
 use Rattle.rules.specs.declared.Value.the-variants.{Zero, One, Blank}
-use Rattle.rules.specs.declared.Status.{Status}
-use Rattle.rules.specs.declared.Status.the-variants.{Undecided, Decided}
+use Rattle.rules.specs.declared.Status.the-variants.{Undecided}
 use Rattle.rules.specs.declared.Decision.{Decision}
 use Rattle.rules.specs.declared.Decision.the-variants.{Zero as ForZero, One as ForOne, Unwritten}
 use Rattle.rules.specs.declared.Ballot.{Ballot}

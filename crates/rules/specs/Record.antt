@@ -1,7 +1,7 @@
 -- A head as the record of 20 bytes that the heads' firmware holds. Document 01, 'Heads and ballots'.
 use Prim.Native.Nat.{ℕ, _+_, _*_, _/_, _%_}
 use mathlib.Core.List.{List, [], _∷_}
-use mathlib.Core.Bool.{Bool, true, false, cond, _&&_, _||_, not}
+use mathlib.Core.Bool.{Bool, cond, _&&_, not}
 use lib.ListN.{length, getD, replicate}
 use lib.Dec.{ltb, eqb}
 use Rattle.rules.specs.declared.Decision.{Decision}

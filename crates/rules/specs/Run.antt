@@ -12,7 +12,7 @@ use Rattle.rules.specs.declared.Ballot.{Ballot}
 use Rattle.rules.specs.declared.Head.{Head}
 use Rattle.rules.specs.Ballot.{bytesOf}
 use Rattle.rules.specs.Head.{startOf, ballotOf}
-use Rattle.rules.specs.Tick.{ballots, tickNumber, tickOf}
+use Rattle.rules.specs.Tick.{ballots, tickOf}
 use Rattle.rules.specs.Given.{Heads}
 
 -- n heads, and what each proposes

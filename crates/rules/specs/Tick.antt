@@ -1,21 +1,21 @@
 -- One tick, with its refusals. Document 01, 'One tick' and 'Numbers given back', sentence by sentence.
-use Prim.Native.Nat.{ℕ, _+_, _*_, _/_, _%_}
+use Prim.Native.Nat.{ℕ, _+_, _/_, _%_}
 use mathlib.Core.List.{List, [], _∷_}
-use mathlib.Core.Bool.{Bool, true, false, cond, _&&_, _||_, not}
+use mathlib.Core.Bool.{Bool, cond, _&&_, _||_, not}
 use lib.ListN.{length}
 use lib.Dec.{ltb, leb, eqb}
 use Rattle.rules.specs.declared.Value.{Value}
 use Rattle.rules.specs.declared.Value.the-variants.{Zero, One, Blank}
 use Rattle.rules.specs.declared.Status.{Status}
-use Rattle.rules.specs.declared.Status.the-variants.{Undecided, Decided}
+use Rattle.rules.specs.declared.Status.the-variants.{Decided}
 use Rattle.rules.specs.declared.Ballot.{Ballot}
 use Rattle.rules.specs.declared.Head.{Head}
 use Rattle.rules.specs.declared.Ticked.{Ticked}
 use Rattle.rules.specs.Number.{_when_, firstThatApplies}
 use Rattle.rules.specs.Below.{first, some}
-use Rattle.rules.specs.Ballot.{valueCode, valueOf, statusCode, sameValue, sameStatus, ballotAt, breaksRule}
+use Rattle.rules.specs.Ballot.{valueOf, sameValue, sameStatus, ballotAt, breaksRule}
 use Rattle.rules.specs.Heard.{member, setOf, size, overHalf, heard, says}
-use Rattle.rules.specs.Head.{decisionCode, decisionFor, isDecided, isWritten, decisionIsValue, anyHeard, standsUnder, sound, ballotOf}
+use Rattle.rules.specs.Head.{decisionFor, isDecided, isWritten, decisionIsValue, anyHeard, standsUnder, sound, ballotOf}
 
 -- how many ballots a list of bytes holds
 abbrev pub ballots : List ℕ → ℕ

@@ -1,9 +1,7 @@
 // One ballot: its codes, the ballot rules, reading and writing its five bytes.
 ghost use mathlib.Core.Path.{_≡_};
-ghost use mathlib.Core.Bool.{not, _&&_, _||_};
 ghost use Prim.Native.Nat.{_+_, _*_, _/_, _<_};
-ghost use lib.Dec.{ltb, leb, eqb};
-ghost use lib.ListN.{length, getD};
+ghost use lib.ListN.{length};
 ghost use Rattle.rules.specs.Ballot.{valueCode, valueOf, statusCode, statusOf, bytesOf, classOf, allowed as allowedOf, obeys as obeysOf, breaksRule, ballotAt, notHeads, readNumber, readBallot, numberRead, ballotRead};
 use rules::Ballot;
 use rules::Class;

@@ -1,4 +1,4 @@
-use borrow.Author.Tests.{ne-eqb, eq-eqb, lt-ltb, le-ltb}
+use borrow.Author.Tests.{ne-eqb, lt-ltb, le-ltb}
 use Rattle.rules.specs.Ballot.{allowed}
 use borrow.Author.Needs.{needs}
 use Rattle.vote.proofs.ballot.allowed.Statement.{statement}

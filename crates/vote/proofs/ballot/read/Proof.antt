@@ -28,7 +28,7 @@ ballot-at-requires c κs = search needs
 
 returns-4 : tie.Need-returns-4
 unfolding readNumber readBallot firstThatApplies
-returns-4 c = (simp (← c .before .before .before .before .before .not-heads .ensures, c .before .before .before .before .if1 .left, eq-eqb _ _ (c .before .before .before .if2 .left), ← c .before .before .breaks-rule .ensures, c .before .if3 .left, c .ballot-at .ensures), simp (← c .before .before .before .before .before .not-heads .ensures, c .before .before .before .before .if1 .left, eq-eqb _ _ (c .before .before .before .if2 .left), ← c .before .before .breaks-rule .ensures, c .before .if3 .left, c .ballot-at .ensures))
+returns-4 c = (simp (← c .before .before .before .before .before .not-heads .ensures, c .before .before .before .before .if1 .left, eq-eqb _ _ (c .before .before .before .if2 .left), ← c .before .before .breaks-rule .ensures, c .before .if3 .left), simp (← c .before .before .before .before .before .not-heads .ensures, c .before .before .before .before .if1 .left, eq-eqb _ _ (c .before .before .before .if2 .left), ← c .before .before .breaks-rule .ensures, c .before .if3 .left, c .ballot-at .ensures))
 
 pub read-spec : {M : Type 1} → statement M
 read-spec =

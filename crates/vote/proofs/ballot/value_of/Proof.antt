@@ -1,6 +1,5 @@
-use borrow.Author.Tests.{eq-eqb, ne-eqb}
+use borrow.Author.Tests.{ne-eqb}
 use Rattle.rules.specs.Ballot.{valueOf}
-use mathlib.Core.Path.{refl}
 use Rattle.vote.proofs.ballot.value_of.Statement.{statement}
 use Rattle.vote.proofs.ballot.value_of.Tie as tie
 

@@ -2,7 +2,6 @@ use Rattle.rules.specs.Head.{sound}
 use borrow.Author.Tests.{lt-ltb, le-ltb}
 use Rattle.rules.proofs.Meanings.{heads}
 use mathlib.Core.Path.{sym, _∙_}
-use lib.Dec.{ltb}
 use borrow.Author.Needs.{needs}
 use Rattle.vote.proofs.head.sound.Statement.{statement}
 use Rattle.vote.proofs.head.sound.Tie as tie

@@ -1,6 +1,5 @@
 use Prim.Native.Nat.{ℕ, _+_, _-_, _≤_}
 use mathlib.Core.Path.{sym, subst}
-use mathlib.Core.List.{List}
 use Rattle.rules.proofs.Leader.{Leads, leads-start, leads-more, leads-all}
 use native.Mathlib.Omega.{arith}
 use Rattle.vote.proofs.list.leader.Statement.{statement}

@@ -1,4 +1,3 @@
-use mathlib.Core.Path.{refl}
 use Rattle.rules.specs.Tick.{ahead}
 use borrow.Author.Needs.{needs}
 use Rattle.vote.proofs.list.leading.Statement.{statement}
