@@ -37,7 +37,7 @@ fn answer_read(bytes: &[u8]) {
         malformed(b'R');
         return;
     }
-    let read = vote::read(number_at(bytes, 0), &bytes[4..]);
+    let read = engine::read(number_at(bytes, 0), &bytes[4..]);
     match read {
         Read::Accepted(ballot) => print_answer(b'R', 0, &ballot_bytes(ballot)),
         Read::Refused(number) => print_answer(b'R', number as u32, &[0; 5]),
@@ -49,7 +49,7 @@ fn answer_start(bytes: &[u8]) {
         malformed(b'S');
         return;
     }
-    let started = vote::start(
+    let started = engine::start(
         number_at(bytes, 0),
         number_at(bytes, 4),
         number_at(bytes, 8),
@@ -67,7 +67,7 @@ fn answer_tick(bytes: &[u8]) {
         malformed(b'T');
         return;
     }
-    let ticked = vote::tick(head_at(bytes), &bytes[24..], number_at(bytes, 20));
+    let ticked = engine::tick(head_at(bytes), &bytes[24..], number_at(bytes, 20));
     let head = ticked.head;
     print_answer(b'T', ticked.number as u32, &record_of(head));
 }
@@ -81,7 +81,7 @@ fn answer_send(bytes: &[u8]) {
         malformed(b'B');
         return;
     }
-    let written = vote::send(head_at(bytes));
+    let written = engine::send(head_at(bytes));
     let five = written.bytes;
     print_answer(b'B', written.number as u32, &five);
 }

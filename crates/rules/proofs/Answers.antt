@@ -1,6 +1,6 @@
 -- The parts of an answer.
 use Prim.Native.Nat.{ℕ}
-use mathlib.Core.Path.{_≡_, refl}
+use mathlib.Core.Path.{_≡_, refl, sym, _∙_}
 use mathlib.Core.List.{List}
 use mathlib.Core.Bool.{Bool, true, false, cond}
 use native.Mathlib.Omega.{arith}
@@ -13,6 +13,10 @@ use Rattle.rules.specs.Head.{sound, startNumber, startOf, ballotOf, send
 use Rattle.rules.specs.Tick.{tickNumber, tickOf}
 use Rattle.rules.specs.Record.{isRecord}
 use Rattle.rules.proofs.Truth.{and-left}
+
+-- two answers that are both what a definition gives are equal
+pub only : {A : Type 0} {x y z : A} → x ≡ z → y ≡ z → x ≡ y
+only p q = p ∙ sym q
 
 pub start-number : (n own proposal : ℕ) → startOf n own proposal .number ≡ startNumber n own proposal
 unfolding startOf

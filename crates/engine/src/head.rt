@@ -1,0 +1,163 @@
+// A head: its start, its soundness, and the ballot that it sends.
+ghost use mathlib.Core.Path.{_≡_};
+ghost use Prim.Native.Nat.{_≤_};
+ghost use Rattle.rules.specs.Head.{fresh as freshOf, zeroHead, decisionFits, setsFit, phaseFits, standsUnder, sound as soundOf, startOf, ballotOf, sendOf};
+use crate::ballot::bytes;
+use crate::ballot::not_heads;
+use crate::ballot::obeys;
+use crate::heard::apart;
+use crate::heard::member;
+use crate::heard::within;
+use codes::decision_code;
+use codes::status_code;
+use codes::value_code;
+use codes::value_of;
+use rules::Ballot;
+use rules::Decision;
+use rules::Head;
+use rules::Started;
+use rules::Status;
+use rules::Value;
+use rules::Written;
+
+// Starts a head with its proposal.
+pub fn start(n: u32, own: u32, proposal: u32) -> Started
+    ensures { λ r. ⌜ r ≡ startOf n own proposal ⌝ }
+{
+    if not_heads(n) | !(own < n) {
+        return Started {
+            number: 1,
+            head: zero_head(),
+        };
+    }
+    if 1 < proposal {
+        return Started {
+            number: 2,
+            head: zero_head(),
+        };
+    }
+    Started {
+        number: 0,
+        head: fresh(n as u8, own as u8, proposal as u8),
+    }
+}
+
+// Sends a head's ballot: its five bytes.
+pub fn send(head: Head) -> Written
+    ensures { λ r. ⌜ r ≡ sendOf head ⌝ }
+{
+    if sound(head) {
+        Written {
+            number: 0,
+            bytes: bytes(own_ballot(head)),
+        }
+    } else {
+        Written {
+            number: 3,
+            bytes: [0; 5],
+        }
+    }
+}
+
+pub(crate) fn own_ballot(head: Head) -> Ballot
+    ensures { λ r. ⌜ r ≡ ballotOf head ⌝ }
+{
+    let value = head.value;
+    let status = head.status;
+    Ballot {
+        sender: head.own,
+        value: value,
+        status: status,
+        phase: head.phase,
+    }
+}
+
+// Whether a head is sound.
+pub fn sound(head: Head) -> bool
+    ensures { λ r. ⌜ r ≡ soundOf head ⌝ }
+{
+    if not_heads(head.n as u32) {
+        return false;
+    }
+    if head.n <= head.own {
+        return false;
+    }
+    let value = head.value;
+    let status = head.status;
+    obeys(head.phase, value_code(value), status_code(status))
+        & (decision_fits(head)
+            & (sets_fit(head) & (phase_fits(head) & stands_under(head, head.own, value))))
+}
+
+fn decision_fits(head: Head) -> bool
+    ensures { λ r. ⌜ r ≡ decisionFits head ⌝ }
+{
+    let value_enum = head.value;
+    let status_enum = head.status;
+    let decision_enum = head.decision;
+    let value = value_code(value_enum);
+    let status = status_code(status_enum);
+    let decision = decision_code(decision_enum);
+    (!(status == 1) | ((decision < 2) & (decision == value)))
+        & (!(decision < 2) | (3 <= head.phase))
+}
+
+fn sets_fit(head: Head) -> bool
+    requires { ⌜ head .n ≤ 32 ⌝ }
+    ensures { λ r. ⌜ r ≡ setsFit head ⌝ }
+{
+    let zeros = head.zeros;
+    let ones = head.ones;
+    let blanks = head.blanks;
+    (apart(zeros, ones) & (apart(zeros, blanks) & apart(ones, blanks)))
+        & (within(zeros, head.n) & (within(ones, head.n) & within(blanks, head.n)))
+}
+
+fn phase_fits(head: Head) -> bool
+    ensures { λ r. ⌜ r ≡ phaseFits head ⌝ }
+{
+    let parity = head.phase % 2;
+    (!(parity == 1) | (head.blanks == 0))
+        & (!(parity == 0) | !((head.zeros != 0) & (head.ones != 0)))
+}
+
+// Whether head s, if heard, stands under the value.
+pub(crate) fn stands_under(head: Head, s: u8, value: Value) -> bool
+    ensures { λ r. ⌜ r ≡ standsUnder head s value ⌝ }
+{
+    let code = value_code(value);
+    (!member(head.zeros, s) | (0 == code))
+        & ((!member(head.ones, s) | (1 == code)) & (!member(head.blanks, s) | (2 == code)))
+}
+
+fn fresh(n: u8, own: u8, proposal: u8) -> Head
+    ensures { λ r. ⌜ r ≡ freshOf n own proposal ⌝ }
+{
+    Head {
+        n: n,
+        own: own,
+        phase: 1,
+        value: value_of(proposal),
+        status: Status::Undecided,
+        decision: Decision::Unwritten,
+        zeros: 0,
+        ones: 0,
+        blanks: 0,
+    }
+}
+
+fn zero_head() -> Head
+    ensures { λ r. ⌜ r ≡ zeroHead ⌝ }
+{
+    Head {
+        n: 0,
+        own: 0,
+        phase: 0,
+        value: Value::Zero,
+        status: Status::Undecided,
+        decision: Decision::Zero,
+        zeros: 0,
+        ones: 0,
+        blanks: 0,
+    }
+}

@@ -1,0 +1,193 @@
+// Looking at a list of ballots: each is read from its bytes when it is looked at.
+ghost use mathlib.Core.Path.{_≡_};
+ghost use mathlib.Core.Bool.{cond, _&&_};
+ghost use Prim.Native.Nat.{_<_, _/_};
+ghost use lib.Dec.{ltb};
+ghost use lib.ListN.{length};
+ghost use Rattle.rules.specs.Below.{first};
+ghost use Rattle.rules.specs.Ballot.{breaksRule, ballotAt};
+ghost use Rattle.rules.specs.Tick.{ballots as ballotsOf, ahead as aheadOf, leader as leaderOf, copying as copyingOf, sameState, ownFromAhead, differ as differOf, heldOtherwise, contradicts as contradictsOf, gathered as gatheredOf};
+use crate::ballot::ballot_at;
+use crate::ballot::breaks_rule;
+use crate::head::own_ballot;
+use crate::head::stands_under;
+use crate::heard::hear;
+use codes::status_code;
+use codes::value_code;
+use rules::Ballot;
+use rules::Head;
+
+// The first ballot that breaks a ballot rule; where there is none, the number of ballots. So in
+// each search below.
+pub(crate) fn first_breaking(n: u8, ballots: &[u8]) -> usize
+    ensures { λ r. ⌜ r ≡ first (ballotsOf (now (ballots .entry))) (breaksRule n (now (ballots .entry))) ⌝ }
+{
+    let count = ballots.len() / 5;
+    let mut i: usize = 0;
+    while i < count {
+        if breaks_rule(n as u32, ballots, i) {
+            return i;
+        }
+        i += 1;
+    }
+    i
+}
+
+// The first ballot under the head's own number that is ahead of the head or unlike it.
+pub(crate) fn first_own_from_ahead(head: Head, ballots: &[u8]) -> usize
+    ensures { λ r. ⌜ r ≡ first (ballotsOf (now (ballots .entry))) (λ i. ownFromAhead head (ballotAt (now (ballots .entry)) i)) ⌝ }
+{
+    let count = ballots.len() / 5;
+    let mut i: usize = 0;
+    while i < count {
+        if own_from_ahead(head, ballot_at(ballots, i)) {
+            return i;
+        }
+        i += 1;
+    }
+    i
+}
+
+// The first ballot that differs from an earlier one or from what is held.
+pub(crate) fn first_contradicting(head: Head, ballots: &[u8]) -> usize
+    ensures { λ r. ⌜ r ≡ first (ballotsOf (now (ballots .entry))) (contradictsOf head (now (ballots .entry))) ⌝ }
+{
+    let count = ballots.len() / 5;
+    let mut i: usize = 0;
+    while i < count {
+        if contradicts(head, ballots, i) {
+            return i;
+        }
+        i += 1;
+    }
+    i
+}
+
+// Steps 1 and 2.
+pub(crate) fn gathered(head: Head, ballots: &[u8]) -> Head
+    ensures { λ r. ⌜ r ≡ gatheredOf head (now (ballots .entry)) ⌝ }
+{
+    let at = leader(ballots);
+    if is_above(head.phase, ballots, at) {
+        return hear(copying(head, ballot_at(ballots, at)), ballots);
+    }
+    hear(head, ballots)
+}
+
+// Whether there is a ballot at the index, and of a higher phase.
+fn is_above(phase: u16, ballots: &[u8], at: usize) -> bool
+    ensures { λ r. ⌜ r ≡ ltb at (ballotsOf (now (ballots .entry))) && ltb phase (ballotAt (now (ballots .entry)) at .phase) ⌝ }
+{
+    if at < ballots.len() / 5 {
+        let ballot = ballot_at(ballots, at);
+        phase < ballot.phase
+    } else {
+        false
+    }
+}
+
+// The ballot of the highest phase and, among several senders, of the lowest; 0 where there is none.
+fn leader(ballots: &[u8]) -> usize
+    ensures { λ r. ⌜ r ≡ leaderOf (now (ballots .entry)) ⌝ }
+{
+    let count = ballots.len() / 5;
+    let mut best: usize = 0;
+    let mut i: usize = 1;
+    while i < count {
+        best = leading(ballots, i, best);
+        i += 1;
+    }
+    best
+}
+
+// The index i where its ballot is ahead of the one at best, else best.
+fn leading(ballots: &[u8], i: usize, best: usize) -> usize
+    requires { ⌜ (i < length (now ballots) / 5) × (best < length (now ballots) / 5) ⌝ }
+    ensures { λ r. ⌜ r ≡ cond (aheadOf (ballotAt (now (ballots .entry)) i) (ballotAt (now (ballots .entry)) best)) i best ⌝ }
+{
+    if ahead(ballot_at(ballots, i), ballot_at(ballots, best)) {
+        i
+    } else {
+        best
+    }
+}
+
+fn ahead(a: Ballot, b: Ballot) -> bool
+    ensures { λ r. ⌜ r ≡ aheadOf a b ⌝ }
+{
+    (b.phase < a.phase) | ((a.phase == b.phase) & (a.sender < b.sender))
+}
+
+fn copying(head: Head, ballot: Ballot) -> Head
+    ensures { λ r. ⌜ r ≡ copyingOf head ballot ⌝ }
+{
+    let value = ballot.value;
+    let status = ballot.status;
+    let decision = head.decision;
+    Head {
+        n: head.n,
+        own: head.own,
+        phase: ballot.phase,
+        value: value,
+        status: status,
+        decision: decision,
+        zeros: 0,
+        ones: 0,
+        blanks: 0,
+    }
+}
+
+fn own_from_ahead(head: Head, ballot: Ballot) -> bool
+    ensures { λ r. ⌜ r ≡ ownFromAhead head ballot ⌝ }
+{
+    (ballot.sender == head.own)
+        & ((head.phase < ballot.phase)
+            | ((ballot.phase == head.phase) & !same_state(ballot, own_ballot(head))))
+}
+
+// Whether the ballot at index i differs from an earlier one or from what is held.
+fn contradicts(head: Head, ballots: &[u8], i: usize) -> bool
+    requires { ⌜ i < length (now ballots) / 5 ⌝ }
+    ensures { λ r. ⌜ r ≡ contradictsOf head (now (ballots .entry)) i ⌝ }
+{
+    (first_differing(ballots, i) < i) | held_otherwise(head, ballot_at(ballots, i))
+}
+
+// The first ballot before index i that differs from the one there.
+fn first_differing(ballots: &[u8], i: usize) -> usize
+    requires { ⌜ i < length (now ballots) / 5 ⌝ }
+    ensures { λ r. ⌜ r ≡ first i (λ j. differOf (ballotAt (now (ballots .entry)) j) (ballotAt (now (ballots .entry)) i)) ⌝ }
+{
+    let ballot = ballot_at(ballots, i);
+    let mut j: usize = 0;
+    while j < i {
+        if differ(ballot_at(ballots, j), ballot) {
+            return j;
+        }
+        j += 1;
+    }
+    j
+}
+
+fn differ(a: Ballot, b: Ballot) -> bool
+    ensures { λ r. ⌜ r ≡ differOf a b ⌝ }
+{
+    (a.sender == b.sender) & ((a.phase == b.phase) & !same_state(a, b))
+}
+
+fn held_otherwise(head: Head, ballot: Ballot) -> bool
+    ensures { λ r. ⌜ r ≡ heldOtherwise head ballot ⌝ }
+{
+    let value = ballot.value;
+    (ballot.phase == head.phase) & !stands_under(head, ballot.sender, value)
+}
+
+fn same_state(a: Ballot, b: Ballot) -> bool
+    ensures { λ r. ⌜ r ≡ sameState a b ⌝ }
+{
+    let a_value = a.value;
+    let b_value = b.value;
+    let a_status = a.status;
+    let b_status = b.status;
+    (value_code(a_value) == value_code(b_value)) & (status_code(a_status) == status_code(b_status))
+}

@@ -1,0 +1,132 @@
+// Steps 3 and 4.
+ghost use mathlib.Core.Path.{_≡_};
+ghost use mathlib.Core.Bool.{false, cond};
+ghost use lib.Dec.{eqb};
+ghost use Rattle.rules.specs.Ballot.{statusCode};
+ghost use Rattle.rules.specs.Head.{decisionFor as decisionForOf};
+ghost use Rattle.rules.specs.Tick.{quorum as quorumOf, majority as majorityOf, stepValue, stepStatus, stepped as steppedOf, settled as settledOf, phasesEnd as phasesEndOf};
+use crate::heard::heard;
+use crate::heard::size;
+use codes::status_code;
+use codes::value_of;
+use rules::Decision;
+use rules::Head;
+use rules::Status;
+use rules::Value;
+
+// Step 3.
+pub(crate) fn stepped(head: Head, coin: u8) -> Head
+    requires { ⌜ phasesEndOf head ≡ false ⌝ }
+    ensures { λ r. ⌜ r ≡ steppedOf head coin ⌝ }
+{
+    if quorum(head) {
+        let decision = head.decision;
+        Head {
+            n: head.n,
+            own: head.own,
+            phase: head.phase + 1,
+            value: step_value(head, coin),
+            status: step_status(head),
+            decision: decision,
+            zeros: 0,
+            ones: 0,
+            blanks: 0,
+        }
+    } else {
+        head
+    }
+}
+
+// Step 4: "If decided, the decision is the value."
+pub(crate) fn settled(head: Head) -> Head
+    ensures { λ r. ⌜ r ≡ settledOf head ⌝ }
+{
+    let value = head.value;
+    let status = head.status;
+    let decision = head.decision;
+    Head {
+        n: head.n,
+        own: head.own,
+        phase: head.phase,
+        value: value,
+        status: status,
+        decision: settled_decision(status, value, decision),
+        zeros: head.zeros,
+        ones: head.ones,
+        blanks: head.blanks,
+    }
+}
+
+// Whether step 3 would need a phase above the last.
+pub(crate) fn phases_end(head: Head) -> bool
+    ensures { λ r. ⌜ r ≡ phasesEndOf head ⌝ }
+{
+    quorum(head) & (65536 <= head.phase as u32 + 1)
+}
+
+fn quorum(head: Head) -> bool
+    ensures { λ r. ⌜ r ≡ quorumOf head ⌝ }
+{
+    (head.n as u32) < (size(head.zeros) + size(head.ones) + size(head.blanks)) * 2
+}
+
+fn majority(head: Head, value: Value) -> bool
+    ensures { λ r. ⌜ r ≡ majorityOf head value ⌝ }
+{
+    (head.n as u32) < size(heard(head, value)) * 2
+}
+
+fn step_value(head: Head, coin: u8) -> Value
+    ensures { λ r. ⌜ r ≡ stepValue head coin ⌝ }
+{
+    if head.phase % 2 == 1 {
+        bit_with(
+            majority(head, Value::Zero),
+            majority(head, Value::One),
+            Value::Blank,
+        )
+    } else {
+        bit_with(head.zeros != 0, head.ones != 0, value_of(coin))
+    }
+}
+
+// The value 0 or 1 whose answer is yes, else other.
+fn bit_with(zero: bool, one: bool, other: Value) -> Value
+    ensures { λ r. ⌜ r ≡ cond zero (cond one other Value.Zero) (cond one Value.One other) ⌝ }
+{
+    if zero {
+        if one { other } else { Value::Zero }
+    } else {
+        if one { Value::One } else { other }
+    }
+}
+
+fn step_status(head: Head) -> Status
+    ensures { λ r. ⌜ r ≡ stepStatus head ⌝ }
+{
+    if (head.phase % 2 == 0) & (majority(head, Value::Zero) | majority(head, Value::One)) {
+        Status::Decided
+    } else {
+        head.status
+    }
+}
+
+fn settled_decision(status: Status, value: Value, decision: Decision) -> Decision
+    ensures { λ r. ⌜ r ≡ cond (eqb (statusCode status) 1) (decisionForOf value) decision ⌝ }
+{
+    if status_code(status) == 1 {
+        decision_for(value)
+    } else {
+        decision
+    }
+}
+
+fn decision_for(value: Value) -> Decision
+    ensures { λ r. ⌜ r ≡ decisionForOf value ⌝ }
+{
+    match value {
+        Value::Zero => Decision::Zero,
+        Value::One => Decision::One,
+        Value::Blank => Decision::Unwritten,
+    }
+}

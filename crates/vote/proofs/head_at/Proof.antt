@@ -1,0 +1,118 @@
+use Rattle.rules.specs.Record.{headAt}
+use borrow.Author.Needs.{needs}
+use Rattle.vote.proofs.head_at.Statement.{statement}
+use Rattle.vote.proofs.head_at.Tie as tie
+
+shared-slice-read-t3 : tie.Need-shared-slice-read-t3
+shared-slice-read-t3 c = search needs
+
+shared-slice-read-t5 : tie.Need-shared-slice-read-t5
+shared-slice-read-t5 c = search needs
+
+shared-slice-read-phase-of : tie.Need-shared-slice-read-phase-of
+shared-slice-read-phase-of c = search needs
+
+shared-slice-read-phase-of-2 : tie.Need-shared-slice-read-phase-of-2
+shared-slice-read-phase-of-2 c = search needs
+
+phase-of-requires : tie.Need-phase-of-requires
+phase-of-requires c κs = search needs
+
+shared-slice-read-value-of : tie.Need-shared-slice-read-value-of
+shared-slice-read-value-of c = search needs
+
+value-of-requires : tie.Need-value-of-requires
+value-of-requires c κs = search needs
+
+shared-slice-read-status-of : tie.Need-shared-slice-read-status-of
+shared-slice-read-status-of c = search needs
+
+status-of-requires : tie.Need-status-of-requires
+status-of-requires c κs = search needs
+
+shared-slice-read-decision-of : tie.Need-shared-slice-read-decision-of
+shared-slice-read-decision-of c = search needs
+
+decision-of-requires : tie.Need-decision-of-requires
+decision-of-requires c κs = search needs
+
+shared-slice-read-word-of : tie.Need-shared-slice-read-word-of
+shared-slice-read-word-of c = search needs
+
+shared-slice-read-word-of-2 : tie.Need-shared-slice-read-word-of-2
+shared-slice-read-word-of-2 c = search needs
+
+shared-slice-read-word-of-3 : tie.Need-shared-slice-read-word-of-3
+shared-slice-read-word-of-3 c = search needs
+
+shared-slice-read-word-of-4 : tie.Need-shared-slice-read-word-of-4
+shared-slice-read-word-of-4 c = search needs
+
+word-of-requires : tie.Need-word-of-requires
+word-of-requires c κs = search needs
+
+shared-slice-read-word-of-5 : tie.Need-shared-slice-read-word-of-5
+shared-slice-read-word-of-5 c = search needs
+
+shared-slice-read-word-of-6 : tie.Need-shared-slice-read-word-of-6
+shared-slice-read-word-of-6 c = search needs
+
+shared-slice-read-word-of-7 : tie.Need-shared-slice-read-word-of-7
+shared-slice-read-word-of-7 c = search needs
+
+shared-slice-read-word-of-8 : tie.Need-shared-slice-read-word-of-8
+shared-slice-read-word-of-8 c = search needs
+
+word-of-requires-2 : tie.Need-word-of-requires-2
+word-of-requires-2 c κs = search needs
+
+shared-slice-read-word-of-9 : tie.Need-shared-slice-read-word-of-9
+shared-slice-read-word-of-9 c = search needs
+
+shared-slice-read-word-of-10 : tie.Need-shared-slice-read-word-of-10
+shared-slice-read-word-of-10 c = search needs
+
+shared-slice-read-word-of-11 : tie.Need-shared-slice-read-word-of-11
+shared-slice-read-word-of-11 c = search needs
+
+shared-slice-read-word-of-12 : tie.Need-shared-slice-read-word-of-12
+shared-slice-read-word-of-12 c = search needs
+
+word-of-requires-3 : tie.Need-word-of-requires-3
+word-of-requires-3 c κs = search needs
+
+returns : tie.Need-returns
+unfolding headAt
+returns c = simp (c .word-of3 .ensures, c .before .before .before .before .before .word-of2 .ensures, c .before .before .before .before .before .before .before .before .before .before .word-of .ensures, c .before .before .before .before .before .before .before .before .before .before .before .before .before .before .before .before .before .before .before .before .before .phase-of .ensures, c .before .before .before .before .before .before .before .before .before .before .before .before .before .before .before .before .before .before .before .value-of .ensures, c .before .before .before .before .before .before .before .before .before .before .before .before .before .before .before .before .before .status-of .ensures, c .before .before .before .before .before .before .before .before .before .before .before .before .before .before .before .decision-of .ensures)
+
+pub head-at-spec : {M : Type 1} → statement M
+head-at-spec =
+    tie.close
+    (tie.spec
+    shared-slice-read-t3
+    shared-slice-read-t5
+    shared-slice-read-phase-of
+    shared-slice-read-phase-of-2
+    phase-of-requires
+    shared-slice-read-value-of
+    value-of-requires
+    shared-slice-read-status-of
+    status-of-requires
+    shared-slice-read-decision-of
+    decision-of-requires
+    shared-slice-read-word-of
+    shared-slice-read-word-of-2
+    shared-slice-read-word-of-3
+    shared-slice-read-word-of-4
+    word-of-requires
+    shared-slice-read-word-of-5
+    shared-slice-read-word-of-6
+    shared-slice-read-word-of-7
+    shared-slice-read-word-of-8
+    word-of-requires-2
+    shared-slice-read-word-of-9
+    shared-slice-read-word-of-10
+    shared-slice-read-word-of-11
+    shared-slice-read-word-of-12
+    word-of-requires-3
+    returns)

@@ -1,9 +1,0 @@
-use Rattle.rules.proofs.Sets.{apart-and}
-use Rattle.vote.proofs.heard.apart.Statement.{statement}
-use Rattle.vote.proofs.heard.apart.Tie as tie
-
-returns : tie.Need-returns
-returns c = apart-and _ _ (c .fits .a .fits) (c .fits .b .fits)
-
-pub apart-spec : {M : Type 1} → statement M
-apart-spec = tie.close (tie.spec returns)
