@@ -1,12 +1,12 @@
 -- A start and every accepted tick give a sound head, from any sound head and any bytes.
-use Prim.Native.Nat.{ℕ, _+_, _%_, _≤_, _<_}
+use Prim.Native.Nat.{ℕ, _+_, _*_, _%_, _≤_, _<_}
 use mathlib.Core.Path.{_≡_, refl, sym, ap, subst, _∙_}
 use mathlib.Core.List.{List}
 use mathlib.Core.Bool.{Bool, true, false, cond}
 use mathlib.Core.Logic.{inl, inr}
 use native.Mathlib.Omega.{arith}
 use lib.Dec.{lit<}
-use borrow.Author.Tests.{eq-eqb, ne-eqb}
+use borrow.Author.Tests.{eq-eqb, ne-eqb, ltb-true}
 use Rattle.rules.specs.declared.Value.{Value}
 use Rattle.rules.specs.declared.Value.the-variants.{Zero, One, Blank}
 use Rattle.rules.specs.declared.Status.{Status}
@@ -15,10 +15,13 @@ use Rattle.rules.specs.declared.Decision.{Decision}
 use Rattle.rules.specs.declared.Decision.the-variants.{Unwritten}
 use Rattle.rules.specs.declared.Head.{Head}
 use Rattle.rules.specs.Ballot.{valueCode, valueOf, statusCode, ballotAt}
+use Rattle.rules.specs.Below.{count}
+use Rattle.rules.specs.Heard.{member, size, overHalf, heard}
 use Rattle.rules.specs.Head.{decisionFor, isDecided, fresh, sound, startNumber, startOf}
-use Rattle.rules.specs.Tick.{ballots, moved, added, gathered, quorum, stepValue, stepStatus, risen, stepped, settled, tickNumber, tickOf}
+use Rattle.rules.specs.Tick.{ballots, moved, added, gathered, quorum, majority, stepValue, stepStatus, risen, stepped, settled, tickNumber, tickOf}
 use Rattle.rules.specs.Given.{Heads, Obeys, first, second, odd, even, Hears, Sound, DecidesOtherwise}
 use Rattle.rules.proofs.Truth.{false-not, not-not}
+use Rattle.rules.proofs.Counting.{count-within, meet}
 use Rattle.rules.proofs.Meanings.{means-value, means-decided, hears-nobody}
 use Rattle.rules.proofs.TheBit.{bit-code, bit-kept, coin-bit}
 use Rattle.rules.proofs.Accepted.{Accepted, value-code-back, start-accepted, tick-accepted}
@@ -119,6 +122,18 @@ module _ (h : Head) (l : List ℕ) (coin : ℕ) (a : Accepted h l coin) where
       go (inr x) (inr y) =
           same-value v w
           (λ n. a .once (x .0) (y .0) (x .1) (y .1) (x .2 .1 ∙ sym (y .2 .1), x .2 .0 ∙ sym (y .2 .0), inl (λ e. n (sym (x .2 .2) ∙ e ∙ y .2 .2))))
+
+  -- so no two values have a majority
+  pub one-majority : (v w : Value) → majority (gathered h l) v ≡ true → majority (gathered h l) w ≡ true → v ≡ w
+  unfolding majority size
+  one-majority v w p q =
+      let r = meet (h .n) (λ s. member s (heard (gathered h l) v)) (λ s. member s (heard (gathered h l) w)) (over v p) (over w q) in
+      gathered-disjoint v w (r .0) (r .2) (r .3)
+    where
+      over : (v : Value) → overHalf (gathered h l .n) (size (heard (gathered h l) v)) ≡ true → h .n < count (h .n) (λ s. member s (heard (gathered h l) v)) * 2
+      over v e =
+          omega
+          (arith, ltb-true (gathered h l .n) (size (heard (gathered h l) v) * 2) e, gathered-same h l .0, count-within 32 (λ s. member s (heard (gathered h l) v)) (a .sound .heads .1) (gathered-members v))
 
   gathered-odd : gathered h l .phase % 2 ≡ 1 → (s : ℕ) → Hears (gathered h l) Blank s → ⊥
   unfolding gathered added

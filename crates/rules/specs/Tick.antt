@@ -73,7 +73,7 @@ quorum h = overHalf (h .n) (size (h .zeros) + size (h .ones) + size (h .blanks))
 unfoldable pub majority : Head → Value → Bool
 majority h v = overHalf (h .n) (size (heard h v))
 
--- the value 0 or 1 of which p holds, else other; were it both, it would be neither
+-- the value 0 or 1 of which p holds, else other; both never are: two majorities meet, and refusal 9 is before the step
 unfoldable pub bitWith : (Value → Bool) → Value → Value
 bitWith p other = cond (p Zero) (cond (p One) other Zero) (cond (p One) One other)
 
