@@ -100,20 +100,35 @@ fn allowed(class: Class, value: u8, status: u8) -> bool
     match class {
         Class::Never => false,
         Class::First => match value {
-            0..=1 => status == 0,
+            0..=1 => match status {
+                0 => true,
+                _ => false,
+            },
             _ => false,
         },
         Class::Second => match value {
-            0..=2 => status == 0,
+            0..=2 => match status {
+                0 => true,
+                _ => false,
+            },
             _ => false,
         },
         Class::Odd => match value {
-            0..=1 => status < 2,
+            0..=1 => match status {
+                0..=1 => true,
+                _ => false,
+            },
             _ => false,
         },
         Class::Even => match value {
-            0..=1 => status < 2,
-            2 => status == 0,
+            0..=1 => match status {
+                0..=1 => true,
+                _ => false,
+            },
+            2 => match status {
+                0 => true,
+                _ => false,
+            },
             _ => false,
         },
     }
