@@ -19,7 +19,7 @@ use crate::print::print_answer;
 use rules::Read;
 
 // Calls what the letter stands for and prints the answer. `lent` is the same bytes a second time.
-pub fn answer(letter: u8, bytes: &[u8], lent: &mut [u8]) {
+pub(crate) fn answer(letter: u8, bytes: &[u8], lent: &mut [u8]) {
     match letter {
         b'R' => answer_read(bytes),
         b'S' => answer_start(bytes),

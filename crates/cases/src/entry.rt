@@ -12,7 +12,7 @@ use crate::head::number_at;
 use crate::print::malformed;
 use crate::print::print_answer;
 
-pub fn answer_vote_start(bytes: &[u8], lent: &mut [u8]) {
+pub(crate) fn answer_vote_start(bytes: &[u8], lent: &mut [u8]) {
     if lent.len() < 12 {
         malformed(b's');
         return;
@@ -25,7 +25,7 @@ pub fn answer_vote_start(bytes: &[u8], lent: &mut [u8]) {
     );
 }
 
-pub fn answer_vote_tick(bytes: &[u8], lent: &mut [u8]) {
+pub(crate) fn answer_vote_tick(bytes: &[u8], lent: &mut [u8]) {
     let record_end = 1 + byte_at(bytes, 0) as usize;
     let list_start = record_end + 4;
     if bytes.len() < list_start {
@@ -43,7 +43,7 @@ pub fn answer_vote_tick(bytes: &[u8], lent: &mut [u8]) {
     );
 }
 
-pub fn answer_vote_ballot(bytes: &[u8], lent: &mut [u8]) {
+pub(crate) fn answer_vote_ballot(bytes: &[u8], lent: &mut [u8]) {
     let record_end = 1 + byte_at(bytes, 0) as usize;
     if bytes.len() < record_end {
         malformed(b'b');

@@ -8,7 +8,7 @@ use rules::Status;
 use rules::Value;
 
 // Whether the bytes begin with a record whose codes a head by value can hold.
-pub fn begins_with_head(bytes: &[u8]) -> bool {
+pub(crate) fn begins_with_head(bytes: &[u8]) -> bool {
     if bytes.len() < 20 {
         return false;
     }
@@ -16,7 +16,7 @@ pub fn begins_with_head(bytes: &[u8]) -> bool {
 }
 
 // The head whose record the bytes begin with.
-pub fn head_at(bytes: &[u8]) -> Head {
+pub(crate) fn head_at(bytes: &[u8]) -> Head {
     Head {
         n: byte_at(bytes, 0),
         own: byte_at(bytes, 1),
@@ -30,7 +30,7 @@ pub fn head_at(bytes: &[u8]) -> Head {
     }
 }
 
-pub fn record_of(head: Head) -> [u8; 20] {
+pub(crate) fn record_of(head: Head) -> [u8; 20] {
     let phase = head.phase;
     let value = head.value;
     let status = head.status;
@@ -62,7 +62,7 @@ pub fn record_of(head: Head) -> [u8; 20] {
     ]
 }
 
-pub fn ballot_bytes(ballot: Ballot) -> [u8; 5] {
+pub(crate) fn ballot_bytes(ballot: Ballot) -> [u8; 5] {
     let value = ballot.value;
     let status = ballot.status;
     let phase = ballot.phase;
@@ -76,12 +76,12 @@ pub fn ballot_bytes(ballot: Ballot) -> [u8; 5] {
 }
 
 // The byte at an index, and 0 past the end.
-pub fn byte_at(bytes: &[u8], at: usize) -> u8 {
+pub(crate) fn byte_at(bytes: &[u8], at: usize) -> u8 {
     if at < bytes.len() { bytes[at] } else { 0 }
 }
 
 // The number in four bytes from an index on, high byte first, and 0 where they pass the end.
-pub fn number_at(bytes: &[u8], at: usize) -> u32 {
+pub(crate) fn number_at(bytes: &[u8], at: usize) -> u32 {
     if bytes.len() < 4 {
         return 0;
     }

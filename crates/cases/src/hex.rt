@@ -14,7 +14,7 @@ const STRANGE: u8 = 17;
 
 // Puts the bytes that the text's digits give into a buffer of zeros. Digits past its end are only
 // counted.
-pub fn unhex(text: &[u8], bytes: &mut [u8]) -> Digits {
+pub(crate) fn unhex(text: &[u8], bytes: &mut [u8]) -> Digits {
     let mut count: usize = 0;
     let mut strange = false;
     let mut i: usize = 0;

@@ -4,7 +4,7 @@ use crate::hex::unhex;
 use crate::print::malformed;
 
 // Prints the answer to one vector, and nothing for a comment or an empty line.
-pub fn answer_line(line: &[u8]) {
+pub(crate) fn answer_line(line: &[u8]) {
     if line.len() == 0 {
         return;
     }

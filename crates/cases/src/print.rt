@@ -2,7 +2,7 @@
 use libc::STDOUT_FILENO;
 
 // The letter, the number as two hex digits, and the bytes.
-pub fn print_answer(letter: u8, number: u32, bytes: &[u8]) {
+pub(crate) fn print_answer(letter: u8, number: u32, bytes: &[u8]) {
     io::write_all(STDOUT_FILENO, &[letter, b' ']);
     io::print_hex(STDOUT_FILENO, number as u64, 2);
     io::write_all(STDOUT_FILENO, b" ");
@@ -11,7 +11,7 @@ pub fn print_answer(letter: u8, number: u32, bytes: &[u8]) {
 }
 
 // A line that is no vector prints no answer, but something that no answer is, so that it shows.
-pub fn malformed(letter: u8) {
+pub(crate) fn malformed(letter: u8) {
     io::write_all(STDOUT_FILENO, &[letter, b' ', b'?', b'?', b'\n']);
 }
 

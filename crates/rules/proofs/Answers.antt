@@ -2,16 +2,17 @@
 use Prim.Native.Nat.{ℕ}
 use mathlib.Core.Path.{_≡_, refl, sym, _∙_}
 use mathlib.Core.List.{List}
-use mathlib.Core.Bool.{Bool, true, false, cond}
+use mathlib.Core.Bool.{Bool, true, false, cond, _||_, not}
 use native.Mathlib.Omega.{arith}
 use lib.ListN.{length}
-use lib.Dec.{eqb}
+use lib.Dec.{ltb, eqb}
 use borrow.Author.Tests.{eqb-true}
 use Rattle.rules.specs.declared.Head.{Head}
-use Rattle.rules.specs.Ballot.{bytesOf}
+use Rattle.rules.specs.Number.{firstThatApplies}
+use Rattle.rules.specs.Ballot.{bytesOf, notHeads}
 use Rattle.rules.specs.Head.{sound, startNumber, startOf, ballotOf, sendOf}
 use Rattle.rules.specs.Tick.{tickNumber, tickOf}
-use Rattle.rules.specs.Record.{isRecord}
+use Rattle.rules.specs.Record.{isRecord, startsNumber}
 use Rattle.rules.proofs.Truth.{and-left}
 
 -- two answers that are both what a definition gives are equal
@@ -21,6 +22,17 @@ only p q = p ∙ sym q
 pub start-number : (n own proposal : ℕ) → startOf n own proposal .number ≡ startNumber n own proposal
 unfolding startOf
 start-number n own proposal = refl
+
+-- a start from C asks what a start asks, then the length
+pub starts-number : (r : List ℕ) (n own proposal : ℕ) → startsNumber r n own proposal ≡ cond (eqb (startNumber n own proposal) 0) (cond (eqb (length r) 20) 0 3) (startNumber n own proposal)
+unfolding startsNumber startNumber firstThatApplies
+starts-number r n own proposal = go (notHeads n || not (ltb own n)) (ltb 1 proposal) (eqb (length r) 20)
+  where
+    go : (a b c : Bool) → _≡_ {A = ℕ} (cond a 1 (cond b 2 (cond (not c) 3 0))) (cond (eqb (cond a 1 (cond b 2 0)) 0) (cond c 0 3) (cond a 1 (cond b 2 0)))
+    go true b c = refl
+    go false true c = refl
+    go false false true = refl
+    go false false false = refl
 
 pub tick-number : (h : Head) (l : List ℕ) (coin : ℕ) → tickOf h l coin .number ≡ tickNumber h l coin
 unfolding tickOf

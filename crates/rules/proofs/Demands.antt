@@ -19,8 +19,8 @@ use Rattle.rules.specs.Below.{some, count}
 use Rattle.rules.specs.Ballot.{valueOf, sameValue, readNumber, readBallot}
 use Rattle.rules.specs.Head.{decisionFor, sound, startNumber, ballotOf, sendOf}
 use Rattle.rules.specs.Tick.{gathered, tickNumber, tickOf}
-use Rattle.rules.specs.Record.{startsNumber, startsRecord, ticksNumber, ticksRecord}
-use Rattle.rules.specs.Given.{Given, startTable, readTable, tickTable, Sound, Quorum}
+use Rattle.rules.specs.Record.{startsNumber, startsRecord, ticksNumber, ticksRecord, sendsNumber}
+use Rattle.rules.specs.Given.{Given, startTable, readTable, tickTable, startsTable, ticksTable, sendsTable, Sound, Quorum}
 use Rattle.rules.specs.History.{Handed, headAfter, AllAccepted, processAfter, Shows}
 use Rattle.rules.specs.Run.{Vote, Proper, Event, headIn, Sent, Run}
 use Rattle.rules.specs.Round.{Channel, round, lossless}
@@ -28,6 +28,7 @@ use Rattle.rules.proofs.Truth.{false-not}
 use Rattle.rules.proofs.Below.{means-some, not-some}
 use Rattle.rules.proofs.Meanings.{means-value}
 use Rattle.rules.proofs.Given.{start-given, read-given, tick-given}
+use Rattle.rules.proofs.GivenFromC.{starts-given, ticks-given, sends-given}
 use Rattle.rules.proofs.Ballots.{Bytes, sent-reads-back, one-ballot-one-writing}
 use Rattle.rules.proofs.AsAlgorithm.{as-algorithm-1}
 use Rattle.rules.proofs.Rounds.{round-is-run}
@@ -52,6 +53,16 @@ a-reading-is-refused-by-the-first-number-that-applies = read-given
 
 pub a-tick-is-refused-by-the-first-number-that-applies : (h : Head) (l : List ℕ) (coin number : ℕ) → (tickNumber h l coin ≡ number) ↔ Given number (tickTable h l coin)
 a-tick-is-refused-by-the-first-number-that-applies = tick-given
+
+-- the same from C
+pub a-start-from-c-is-refused-by-the-first-number-that-applies : (r : List ℕ) (n own proposal number : ℕ) → (startsNumber r n own proposal ≡ number) ↔ Given number (startsTable r n own proposal)
+a-start-from-c-is-refused-by-the-first-number-that-applies = starts-given
+
+pub a-tick-from-c-is-refused-by-the-first-number-that-applies : (r l : List ℕ) (coin number : ℕ) → (ticksNumber r l coin ≡ number) ↔ Given number (ticksTable r l coin)
+a-tick-from-c-is-refused-by-the-first-number-that-applies = ticks-given
+
+pub a-ballot-from-c-is-refused-by-the-first-number-that-applies : (r buffer : List ℕ) (number : ℕ) → (sendsNumber r buffer ≡ number) ↔ Given number (sendsTable r buffer)
+a-ballot-from-c-is-refused-by-the-first-number-that-applies = sends-given
 
 -- "A refused tick returns the head as it came"
 pub a-refused-tick-returns-the-head-as-it-came : (h : Head) (l : List ℕ) (coin : ℕ) → (tickNumber h l coin ≡ 0 → ⊥) → tickOf h l coin .head ≡ h

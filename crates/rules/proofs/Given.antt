@@ -24,13 +24,13 @@ use Rattle.rules.proofs.Meanings.{means-value, means-status, means-deci
 
 -- ---- a table of tests and the table of what they mean
 
-abbrev Matches : List Line → List Row → Type 0
+abbrev pub Matches : List Line → List Row → Type 0
 Matches [] [] = Unit {0}
 Matches [] (r ∷ rows) = ⊥
 Matches (l ∷ lines) [] = ⊥
 Matches ((k when t) ∷ lines) ((m exactly-when P) ∷ rows) = (k ≡ m) × Means t P × Matches lines rows
 
-given : (lines : List Line) (rows : List Row) → Matches lines rows → (number : ℕ) → (firstThatApplies lines ≡ number) ↔ Given number rows
+pub given : (lines : List Line) (rows : List Row) → Matches lines rows → (number : ℕ) → (firstThatApplies lines ≡ number) ↔ Given number rows
 unfolding firstThatApplies
 given [] [] m number = (λ e. sym e, λ e. sym e)
 given [] (r ∷ rows) m number = absurd m

@@ -14,6 +14,7 @@ pub mod Ballots
 pub mod Records
 pub mod Senders
 pub mod Soundness
+pub mod GivenFromC
 pub mod Decisions
 pub mod HeardSoFar
 pub mod BySender

@@ -16,6 +16,7 @@ use Rattle.rules.specs.Ballot.{valueCode, statusCode, phaseAt, ballotAt}
 use Rattle.rules.specs.Heard.{member, size, heard}
 use Rattle.rules.specs.Head.{decisionFor}
 use Rattle.rules.specs.Tick.{ballots, gathered, stepped}
+use Rattle.rules.specs.Record.{headAt}
 
 infix 40 _exactly-when_
 -- a line of the table
@@ -129,12 +130,11 @@ readTable n bytes =
     ∷ (6 exactly-when Breaks n bytes 0)
     ∷ []
 
-abbrev pub tickTable : Head → List ℕ → ℕ → List Row
-tickTable h l coin =
-    -- "head not sound"
-    (3 exactly-when (Sound h → ⊥))
+-- what a tick tests after the head
+abbrev pub laterTable : Head → List ℕ → ℕ → List Row
+laterTable h l coin =
     -- "coin above 1, even if not needed"
-    ∷ (4 exactly-when (1 < coin))
+    (4 exactly-when (1 < coin))
     -- "list length not a multiple of 5, or over 320 bytes"
     ∷ (5 exactly-when ((length l % 5 ≡ 0 → ⊥) ⊎ (320 < length l)))
     -- "a ballot breaks a ballot rule"
@@ -150,4 +150,40 @@ tickTable h l coin =
     ∷ (10 exactly-when (Quorum (gathered h l) × (65536 ≤ gathered h l .phase + 1)))
     -- "the end would be decided with a blank, or with a value unlike the decision already written"
     ∷ (11 exactly-when DecidesOtherwise (stepped (gathered h l) coin))
+    ∷ []
+
+abbrev pub tickTable : Head → List ℕ → ℕ → List Row
+tickTable h l coin =
+    -- "head not sound"
+    (3 exactly-when (Sound h → ⊥))
+    ∷ laterTable h l coin
+
+-- ---- the same from C
+
+-- a record of 20 bytes within the codes that holds a sound head: "Another length or a byte outside these codes makes it
+-- unsound."
+pub record SoundRecord (r : List ℕ) : Type 0 where
+  pub twenty : length r ≡ 20
+  pub value : getD r 4 0 < 3
+  pub status : getD r 5 0 < 2
+  pub decision : getD r 6 0 < 3
+  pub zero : getD r 7 0 ≡ 0
+  pub head : Sound (headAt r)
+
+abbrev pub startsTable : List ℕ → ℕ → ℕ → ℕ → List Row
+startsTable r n own proposal =
+    (1 exactly-when ((Heads n → ⊥) ⊎ (own < n → ⊥)))
+    ∷ (2 exactly-when (1 < proposal))
+    -- "at a start from C, record not 20 bytes"
+    ∷ (3 exactly-when (length r ≡ 20 → ⊥))
+    ∷ []
+
+abbrev pub ticksTable : List ℕ → List ℕ → ℕ → List Row
+ticksTable r l coin = (3 exactly-when (SoundRecord r → ⊥)) ∷ laterTable (headAt r) l coin
+
+abbrev pub sendsTable : List ℕ → List ℕ → List Row
+sendsTable r buffer =
+    (3 exactly-when (SoundRecord r → ⊥))
+    -- "one ballot .. written: not five bytes"
+    ∷ (5 exactly-when (length buffer ≡ 5 → ⊥))
     ∷ []

@@ -1,15 +1,15 @@
 -- A head as the record of 20 bytes that the heads' firmware holds. Document 01, 'Heads and ballots'.
 use Prim.Native.Nat.{ℕ, _+_, _*_, _/_, _%_}
 use mathlib.Core.List.{List, [], _∷_}
-use mathlib.Core.Bool.{Bool, cond, _&&_, not}
+use mathlib.Core.Bool.{Bool, cond, _&&_, _||_, not}
 use lib.ListN.{length, getD, replicate}
 use lib.Dec.{ltb, eqb}
 use Rattle.rules.specs.declared.Decision.{Decision}
 use Rattle.rules.specs.declared.Decision.the-variants.{Zero as ForZero, One as ForOne, Unwritten}
 use Rattle.rules.specs.declared.Head.{Head}
 use Rattle.rules.specs.Number.{_when_, firstThatApplies}
-use Rattle.rules.specs.Ballot.{valueCode, valueOf, statusCode, statusOf, bytesOf}
-use Rattle.rules.specs.Head.{decisionCode, sound, startNumber, startOf, ballotOf}
+use Rattle.rules.specs.Ballot.{valueCode, valueOf, statusCode, statusOf, bytesOf, notHeads}
+use Rattle.rules.specs.Head.{decisionCode, sound, startOf, ballotOf}
 use Rattle.rules.specs.Tick.{tickNumber, tickOf}
 
 -- "n, own number, phase (2, high byte first), value, status, decision (2 for none), a zero byte, then the sets for 0, 1
@@ -55,7 +55,8 @@ notSound r = not (isRecord r && sound (headAt r))
 -- A start from C: 1, 2, then 3, "at a start from C, record not 20 bytes"; "from C the record is unchanged" where refused.
 unfoldable pub startsNumber : List ℕ → ℕ → ℕ → ℕ → ℕ
 startsNumber r n own proposal =
-    cond (eqb (startNumber n own proposal) 0) (cond (eqb (length r) 20) 0 3) (startNumber n own proposal)
+    firstThatApplies
+    ((1 when (notHeads n || not (ltb own n))) ∷ (2 when ltb 1 proposal) ∷ (3 when not (eqb (length r) 20)) ∷ [])
 
 unfoldable pub startsRecord : List ℕ → ℕ → ℕ → ℕ → List ℕ
 startsRecord r n own proposal = cond (eqb (startsNumber r n own proposal) 0) (recordOf (startOf n own proposal .head)) r
