@@ -14,7 +14,7 @@ use Rattle.rules.specs.declared.Read.the-variants.{Accepted, Refused}
 use Rattle.rules.specs.Number.{firstThatApplies}
 use Rattle.rules.specs.Ballot.{valueCode, statusCode, ballotAt, bytesOf, breaksRule, readNumber, readBallot, zeroBallot, numberRead, ballotRead}
 use Rattle.rules.specs.Head.{sound, ballotOf, sendOf}
-use Rattle.rules.specs.Given.{Heads, Obeys, first, second, odd, even}
+use Rattle.rules.specs.Given.{Heads, Obeys, Sound, first, second, odd, even}
 use Rattle.rules.proofs.Truth.{not-false}
 use Rattle.rules.proofs.Meanings.{value-back, status-back, means-heads, means-obeys, means-sound}
 use Rattle.rules.proofs.Accepted.{Stands, ReadsWell, read-accepted}
@@ -36,12 +36,12 @@ written-reads-back n b few stands = (none, rw none (bytes-hold b))
     none = unfold readNumber firstThatApplies in simp (not-false (means-heads n) (λ f. f few), kept)
 
 -- so what a sound head sends is read as its ballot
+pub ballot-reads-back : (h : Head) → Sound h → (readNumber (h .n) (bytesOf (ballotOf h)) ≡ 0) × (readBallot (h .n) (bytesOf (ballotOf h)) ≡ ballotOf h)
+ballot-reads-back h s = written-reads-back (h .n) (ballotOf h) (s .heads) (record { sender = s .own; rules = s .rules })
+
 pub sent-reads-back : (h : Head) → sound h ≡ true → (sendOf h .number ≡ 0) × (readNumber (h .n) (sendOf h .bytes) ≡ 0) × (readBallot (h .n) (sendOf h .bytes) ≡ ballotOf h)
 unfolding sendOf
-sent-reads-back h e =
-    let s = means-sound h .0 e in
-    let r = written-reads-back (h .n) (ballotOf h) (s .heads) (record { sender = s .own; rules = s .rules }) in
-    rw e (refl, r .0, r .1)
+sent-reads-back h e = let r = ballot-reads-back h (means-sound h .0 e) in rw e (refl, r .0, r .1)
 
 -- ---- the other way
 

@@ -7,6 +7,7 @@ use mathlib.Core.List.{List, [], _∷_, _++_}
 use mathlib.Core.Bool.{Bool, true, false, cond}
 use mathlib.Core.Logic.{_⊎_, _↔_}
 use native.Mathlib.Omega.{arith}
+use lib.ListN.{length, replicate}
 use lib.Dec.{eqb}
 use borrow.Author.Tests.{ne-eqb}
 use Rattle.rules.specs.declared.Value.{Value}
@@ -17,9 +18,9 @@ use Rattle.rules.specs.declared.Ballot.{Ballot}
 use Rattle.rules.specs.declared.Head.{Head}
 use Rattle.rules.specs.Below.{some, count}
 use Rattle.rules.specs.Ballot.{valueOf, sameValue, readNumber, readBallot}
-use Rattle.rules.specs.Head.{decisionFor, sound, startNumber, ballotOf, sendOf}
+use Rattle.rules.specs.Head.{decisionFor, sound, startNumber, startOf, ballotOf, sendOf}
 use Rattle.rules.specs.Tick.{gathered, tickNumber, tickOf}
-use Rattle.rules.specs.Record.{startsNumber, startsRecord, ticksNumber, ticksRecord, sendsNumber}
+use Rattle.rules.specs.Record.{headAt, startsNumber, startsRecord, ticksNumber, ticksRecord, sendsNumber, sendsBuffer}
 use Rattle.rules.specs.Given.{Given, startTable, readTable, tickTable, startsTable, ticksTable, sendsTable, Sound, Quorum}
 use Rattle.rules.specs.History.{Handed, headAfter, AllAccepted, processAfter, Shows}
 use Rattle.rules.specs.Run.{Vote, Proper, Event, headIn, Sent, Run}
@@ -28,7 +29,7 @@ use Rattle.rules.proofs.Truth.{false-not}
 use Rattle.rules.proofs.Below.{means-some, not-some}
 use Rattle.rules.proofs.Meanings.{means-value}
 use Rattle.rules.proofs.Given.{start-given, read-given, tick-given}
-use Rattle.rules.proofs.GivenFromC.{starts-given, ticks-given, sends-given}
+use Rattle.rules.proofs.FromC.{starts-given, ticks-given, sends-given, started-record-holds, ticked-record-holds, ballot-from-c-reads-back}
 use Rattle.rules.proofs.Ballots.{Bytes, sent-reads-back, one-ballot-one-writing}
 use Rattle.rules.proofs.AsAlgorithm.{as-algorithm-1}
 use Rattle.rules.proofs.Rounds.{round-is-run}
@@ -78,6 +79,11 @@ pub a-refused-start-changes-no-byte : (r : List ℕ) (n own proposal : ℕ) → 
 unfolding startsRecord
 a-refused-start-changes-no-byte r n own proposal f = rw (ne-eqb (startsNumber r n own proposal) 0 f)
 
+-- "either refusal leaves every byte of that buffer zero", document 01
+pub a-refused-ballot-leaves-zeros : (r buffer : List ℕ) → (sendsNumber r buffer ≡ 0 → ⊥) → sendsBuffer r buffer ≡ replicate (length buffer) 0
+unfolding sendsBuffer
+a-refused-ballot-leaves-zeros r buffer f = rw (ne-eqb (sendsNumber r buffer) 0 f)
+
 -- ---- Demand 2
 
 -- "Each accepted tick does what Algorithm 1 .. does with all ballots heard so far", "for every sequence of accepted ticks
@@ -85,9 +91,20 @@ a-refused-start-changes-no-byte r n own proposal f = rw (ne-eqb (startsNumber r 
 pub each-accepted-tick-does-what-algorithm-1-does : (n own proposal : ℕ) (ticks : List Handed) → AllAccepted n own proposal ticks → Shows (headAfter n own proposal ticks) (processAfter n proposal ticks)
 each-accepted-tick-does-what-algorithm-1-does = as-algorithm-1
 
+-- "Start, tick and ballot are called from C on such records", document 01: a record holds the head that the engine gives,
+-- so what is said here of heads by value is said of records
+pub a-start-from-c-is-the-start : (r : List ℕ) (n own proposal : ℕ) → startsNumber r n own proposal ≡ 0 → headAt (startsRecord r n own proposal) ≡ startOf n own proposal .head
+a-start-from-c-is-the-start = started-record-holds
+
+pub a-tick-from-c-is-the-tick : (r l : List ℕ) (coin : ℕ) → ticksNumber r l coin ≡ 0 → headAt (ticksRecord r l coin) ≡ tickOf (headAt r) l coin .head
+a-tick-from-c-is-the-tick = ticked-record-holds
+
 -- "Every ballot written reads back as written"
 pub every-ballot-written-reads-back : (h : Head) → sound h ≡ true → (sendOf h .number ≡ 0) × (readNumber (h .n) (sendOf h .bytes) ≡ 0) × (readBallot (h .n) (sendOf h .bytes) ≡ ballotOf h)
 every-ballot-written-reads-back = sent-reads-back
+
+pub every-ballot-written-from-c-reads-back : (r buffer : List ℕ) → sendsNumber r buffer ≡ 0 → (readNumber (headAt r .n) (sendsBuffer r buffer) ≡ 0) × (readBallot (headAt r .n) (sendsBuffer r buffer) ≡ ballotOf (headAt r))
+every-ballot-written-from-c-reads-back = ballot-from-c-reads-back
 
 -- "every accepted ballot's bytes are the only ones for it"
 pub accepted-bytes-are-the-only-ones : (n m : ℕ) (k l : List ℕ) → Bytes k → Bytes l → readNumber n k ≡ 0 → readNumber m l ≡ 0 → readBallot n k ≡ readBallot m l → k ≡ l

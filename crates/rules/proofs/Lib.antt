@@ -14,7 +14,7 @@ pub mod Ballots
 pub mod Records
 pub mod Senders
 pub mod Soundness
-pub mod GivenFromC
+pub mod FromC
 pub mod Decisions
 pub mod HeardSoFar
 pub mod BySender

@@ -1,4 +1,4 @@
--- The table 'given exactly when' for the three entries from C, and the records that they leave.
+-- The three entries from C: the table 'given exactly when', and what they leave in the lent bytes.
 use Prim.Native.Nat.{ℕ}
 use mathlib.Core.Path.{_≡_, refl, sym, ap, subst, _∙_}
 use mathlib.Core.List.{List}
@@ -10,15 +10,17 @@ use lib.ListN.{length, getD}
 use lib.Dec.{eqb}
 use borrow.Author.Tests.{ne-eqb}
 use Rattle.rules.specs.declared.Head.{Head}
-use Rattle.rules.specs.Head.{sound, startNumber, startOf}
+use Rattle.rules.specs.Ballot.{readNumber, readBallot}
+use Rattle.rules.specs.Head.{sound, startNumber, startOf, ballotOf}
 use Rattle.rules.specs.Tick.{tickNumber, tickOf}
-use Rattle.rules.specs.Record.{recordOf, isRecord, headAt, notSound, startsNumber, startsRecord, ticksNumber, ticksRecord, sendsNumber}
+use Rattle.rules.specs.Record.{recordOf, isRecord, headAt, notSound, startsNumber, startsRecord, ticksNumber, ticksRecord, sendsNumber, sendsBuffer}
 use Rattle.rules.specs.Given.{Given, Sound, SoundRecord, startsTable, laterTable, ticksTable, sendsTable}
 use Rattle.rules.proofs.Truth.{Means, means-self, means-as, means-and, means-or, means-not, means-lt, means-eq, false-not}
 use Rattle.rules.proofs.Meanings.{means-heads, means-sound}
 use Rattle.rules.proofs.Answers.{starts-number}
 use Rattle.rules.proofs.Given.{given, tick-given}
 use Rattle.rules.proofs.Records.{record-holds, record-is-record}
+use Rattle.rules.proofs.Ballots.{ballot-reads-back}
 use Rattle.rules.proofs.Soundness.{start-sound, tick-sound}
 
 -- what the test of a record means
@@ -91,3 +93,24 @@ ticked-record-is-sound r l coin e = rw e (written-sound (tickOf (headAt r) l coi
         go : (t : Bool) → cond t (tickNumber (headAt r) l coin) 3 ≡ 0 → tickNumber (headAt r) l coin ≡ 0
         go true q = q
         go false q = absurd (omega arith)
+
+-- ---- an accepted entry leaves what the engine gives by value
+
+pub started-record-holds : (r : List ℕ) (n own proposal : ℕ) → startsNumber r n own proposal ≡ 0 → headAt (startsRecord r n own proposal) ≡ startOf n own proposal .head
+unfolding startsRecord
+started-record-holds r n own proposal e = rw e (record-holds (startOf n own proposal .head))
+
+pub ticked-record-holds : (r l : List ℕ) (coin : ℕ) → ticksNumber r l coin ≡ 0 → headAt (ticksRecord r l coin) ≡ tickOf (headAt r) l coin .head
+unfolding ticksRecord
+ticked-record-holds r l coin e = rw e (record-holds (tickOf (headAt r) l coin .head))
+
+pub ballot-from-c-reads-back : (r buffer : List ℕ) → sendsNumber r buffer ≡ 0 → (readNumber (headAt r .n) (sendsBuffer r buffer) ≡ 0) × (readBallot (headAt r .n) (sendsBuffer r buffer) ≡ ballotOf (headAt r))
+unfolding sendsBuffer
+ballot-from-c-reads-back r buffer e = rw e (ballot-reads-back (headAt r) (sound-record .head))
+  where
+    sound-record : SoundRecord r
+    sound-record = go (isRecord r && sound (headAt r)) refl
+      where
+        go : (t : Bool) → (isRecord r && sound (headAt r)) ≡ t → SoundRecord r
+        go true q = means-sound-record r .0 q
+        go false q = absurd (elim (sends-given r buffer 0 .0 e) [ inl x ↦ (let z : _≡_ {A = ℕ} 0 3 = x .1 in omega arith) | inr x ↦ x .0 (false-not (means-sound-record r) q) ])
