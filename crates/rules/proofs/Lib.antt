@@ -28,4 +28,5 @@ pub mod TwoRounds
 pub mod Ledger
 pub mod OneEvent
 pub mod Runs
+pub mod WrittenOut
 pub mod Demands
