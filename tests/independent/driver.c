@@ -1,0 +1,165 @@
+/*
+ * Calls the three entries of vote.h as a program at the other end of two pipes asks.
+ *
+ * Standard input has frames: a length of 4 bytes, then that many bytes of calls, one after the
+ * other. A frame is read as a whole before it is answered. Numbers have their low byte first.
+ *
+ *   call     entry (0 start, 1 tick, 2 ballot), null, two lengths, three numbers (4 bytes each),
+ *            the bytes of the record, the bytes of the list or the buffer
+ *   answer   what the entry gave back (4 bytes), 1 if the bytes around the lent ones are as they
+ *            were, else 0; the bytes of the record, the bytes of the list or the buffer
+ *
+ * Start takes n, own number and proposal; tick the coin and two numbers that are not used; ballot
+ * none of the three. Null 1: what has the length 0 is lent as NULL.
+ * Every answer stands on standard output, in order. Status 0 at the end of the input.
+ */
+#include "vote.h"
+
+long read(int file, void *to, size_t length);
+long write(int file, const void *from, size_t length);
+int memcmp(const void *a, const void *b, size_t length);
+void *memcpy(void *to, const void *from, size_t length);
+void *memset(void *to, int byte, size_t length);
+
+/* The guard is odd, so that lent bytes begin at an odd address. */
+enum { GUARD = 17, LENT_MOST = 70000, FRAME_MOST = 1 << 22 };
+enum { FRONT = 2 + 4 + 4 + 3 * 4 };
+enum { START, TICK, BALLOT };
+
+struct lent {
+    uint8_t *at; /* what is passed: the middle of the room, or NULL */
+    size_t length;
+    uint8_t room[GUARD + LENT_MOST + GUARD];
+};
+
+static struct lent record, other;
+static uint8_t guard[GUARD];
+
+/* An answer is shorter than its call, so that the answers have room. */
+static uint8_t calls[FRAME_MOST], answers[FRAME_MOST];
+
+static size_t read_frame(void);
+static size_t answer(size_t length);
+static uint32_t number_at(const uint8_t *bytes);
+static uint32_t give(uint8_t entry, const uint8_t *numbers);
+static void lend(struct lent *to, const uint8_t *bytes, size_t length, uint8_t null);
+static int around_kept(const struct lent *lent);
+static uint8_t *put(uint8_t *to, const struct lent *lent);
+static size_t read_all(uint8_t *to, size_t length);
+static int write_all(const uint8_t *from, size_t length);
+
+int main(void)
+{
+    size_t length;
+    memset(guard, 0xA5, sizeof guard);
+    while ((length = read_frame()) != 0) {
+        const size_t answered = answer(length);
+        if (answered == 0 || !write_all(answers, answered))
+            return 1;
+    }
+    return 0;
+}
+
+/* The length of the next frame; 0 at the end, or where the frame is cut or too long. */
+static size_t read_frame(void)
+{
+    uint8_t front[4];
+    size_t length;
+    if (read_all(front, sizeof front) != sizeof front)
+        return 0;
+    length = number_at(front);
+    return length <= FRAME_MOST && read_all(calls, length) == length ? length : 0;
+}
+
+/* Answers the calls of a frame. The number of bytes in `answers`; 0 where a call is cut. */
+static size_t answer(size_t length)
+{
+    const uint8_t *from = calls, *end = calls + length;
+    uint8_t *to = answers;
+    while (from != end) {
+        size_t record_length, other_length;
+        uint32_t given;
+        if (end - from < FRONT)
+            return 0;
+        record_length = number_at(from + 2);
+        other_length = number_at(from + 6);
+        if (record_length > LENT_MOST || other_length > LENT_MOST
+            || (size_t)(end - from) < FRONT + record_length + other_length)
+            return 0;
+        lend(&record, from + FRONT, record_length, from[1]);
+        lend(&other, from + FRONT + record_length, other_length, from[1]);
+        given = give(from[0], from + 10);
+        memcpy(to, &given, sizeof given);
+        to[4] = around_kept(&record) && around_kept(&other);
+        to = put(put(to + 5, &record), &other);
+        from += FRONT + record_length + other_length;
+    }
+    return (size_t)(to - answers);
+}
+
+static uint32_t number_at(const uint8_t *bytes)
+{
+    uint32_t number;
+    memcpy(&number, bytes, sizeof number);
+    return number;
+}
+
+static uint32_t give(uint8_t entry, const uint8_t *numbers)
+{
+    const uint32_t first = number_at(numbers);
+    if (entry == START)
+        return vote_start(record.at, record.length, first, number_at(numbers + 4),
+                          number_at(numbers + 8));
+    if (entry == TICK)
+        return vote_tick(record.at, record.length, other.at, other.length, first);
+    return vote_ballot(record.at, record.length, other.at, other.length);
+}
+
+/* ---- What is lent */
+
+static void lend(struct lent *to, const uint8_t *bytes, size_t length, uint8_t null)
+{
+    to->at = null && length == 0 ? NULL : to->room + GUARD;
+    to->length = length;
+    memcpy(to->room, guard, GUARD);
+    memcpy(to->room + GUARD, bytes, length);
+    memcpy(to->room + GUARD + length, guard, GUARD);
+}
+
+static int around_kept(const struct lent *lent)
+{
+    return memcmp(lent->room, guard, GUARD) == 0
+        && memcmp(lent->room + GUARD + lent->length, guard, GUARD) == 0;
+}
+
+static uint8_t *put(uint8_t *to, const struct lent *lent)
+{
+    memcpy(to, lent->room + GUARD, lent->length);
+    return to + lent->length;
+}
+
+/* ---- The pipes: one read or write may do a part */
+
+static size_t read_all(uint8_t *to, size_t length)
+{
+    size_t done = 0;
+    while (done < length) {
+        const long part = read(0, to + done, length - done);
+        if (part <= 0)
+            break;
+        done += (size_t)part;
+    }
+    return done;
+}
+
+static int write_all(const uint8_t *from, size_t length)
+{
+    size_t done = 0;
+    while (done < length) {
+        const long part = write(1, from + done, length - done);
+        if (part <= 0)
+            return 0;
+        done += (size_t)part;
+    }
+    return 1;
+}
