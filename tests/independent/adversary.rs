@@ -116,10 +116,35 @@ pub fn invent(chance: &mut Chance, most: usize) -> Script {
 
 /// Two camps, mostly about equal: that is where no value has a majority.
 fn camps(chance: &mut Chance, n: usize) -> Vec<u32> {
-    let ones = if chance.one_in(3) { chance.below(n + 1) } else { n / 2 + chance.below(2) };
-    let mut camp: Vec<u32> = (0..n).map(|head| (head < ones) as u32).collect();
+    let first = if chance.one_in(3) { chance.below(n + 1) } else { n / 2 + chance.below(2) };
+    let bit = chance.bit();
+    let mut camp: Vec<u32> = (0..n).map(|head| if head < first { bit } else { 1 - bit }).collect();
     chance.shuffle(&mut camp);
     camp
+}
+
+fn draw_habits(chance: &mut Chance, n: usize) -> Vec<Habit> {
+    let few: [Habit; 4] = match chance.below(4) {
+        0 => return parted_habits(chance, n),
+        1 | 2 => chance.of(&PLOTS).map(|place| HABITS[place]),
+        _ => std::array::from_fn(|_| chance.of(&HABITS)),
+    };
+    (0..n).map(|_| chance.of(&few)).collect()
+}
+
+/// About half of the heads take a bit at odd phases and the others become blank, so that at the
+/// even phase a majority is just missed or just made. Some heads hear the bit there, others the
+/// blanks.
+fn parted_habits(chance: &mut Chance, n: usize) -> Vec<Habit> {
+    let with_bit = n / 2 + chance.below(3);
+    let mut habits: Vec<Habit> = Vec::new();
+    for head in 0..n {
+        let odd = if head + 1 < with_bit { Plan::Common } else { Plan::InTurn };
+        let even = chance.of(&[Plan::Common, Plan::Doubt, Plan::Doubt]);
+        habits.push(Habit { odd, even, seldom: 1 });
+    }
+    chance.shuffle(&mut habits);
+    habits
 }
 
 /// One head that is started and then hears lists which may be forged. Not honest: demand 2 only.
@@ -157,13 +182,9 @@ impl Adversary<'_> {
         let n = script.proposals.len();
         let records: Vec<Vec<u8>> = (0..n).map(|own| script.first_record(own)).collect();
         let sent = records.iter().map(|record| ballot_in(record)).collect();
-        let few: [Habit; 4] = match chance.one_in(2) {
-            true => chance.of(&PLOTS).map(|place| HABITS[place]),
-            false => std::array::from_fn(|_| chance.of(&HABITS)),
-        };
-        let habits = (0..n).map(|_| chance.of(&few)).collect();
+        let habits = draw_habits(chance, n);
         let whim = chance.of(&[1, 8, 32, 32]);
-        let patience = chance.below(n / 2 + 1);
+        let patience = if chance.one_in(2) { n - n / 2 - 1 } else { chance.below(n / 2 + 1) };
         let tries = chance.of(&[1, 1, 3, 5]);
         Adversary { chance, n, records, sent, camp, habits, whim, patience, tries }
     }

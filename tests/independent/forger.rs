@@ -119,13 +119,13 @@ fn lengthen(chance: &mut Chance, list: &mut Vec<u8>) {
 /// One field of a record, one bit, or its length.
 fn damage(chance: &mut Chance, record: &mut Vec<u8>) {
     let place = chance.below(20);
-    match chance.below(8) {
+    match chance.below(10) {
         0 | 1 => record[place] ^= 1 << chance.below(8),
         2 => record[place] = chance.byte(),
         3 => record[place] = chance.of(&[0, 1, 2, 3, 4, 31, 32, 33, 128, 255]),
-        4 => record[chance.below(8)] = chance.between(0, 4) as u8,
-        5 => record.resize(odd_length(chance, 20), 0),
-        6 => record.copy_within(8..12, 8 + 4 * chance.below(3)),
+        4..=6 => record[chance.below(8)] = chance.between(0, 4) as u8,
+        7 => record.resize(odd_length(chance, 20), 0),
+        8 => record.copy_within(8..12, 8 + 4 * chance.below(3)),
         _ => record[8 + chance.below(12)] |= 1 << chance.below(8),
     }
 }

@@ -1,5 +1,8 @@
 //! Whole votes: a script of ticks, what the independent engine and Algorithm 1 make of it, and
 //! demand 3 over the answers.
+//!
+//! Every call of a vote is lent the record that the independent engine has. As long as no answer
+//! differs that is also the proved engine's own, and so a whole vote can be asked at once.
 
 use crate::algorithm::Process;
 use crate::pipe::{Answer, Call};
@@ -8,7 +11,7 @@ use std::collections::BTreeSet;
 
 /// A vote as it is played. `honest`: every list has only ballots that these heads sent earlier, as
 /// demand 3 has it. Else anything may stand in a list, and only demand 2 is compared.
-#[derive(Clone)]
+#[derive(Clone, PartialEq, Eq)]
 pub struct Script {
     pub honest: bool,
     pub first_phase: u32,
@@ -16,7 +19,7 @@ pub struct Script {
     pub ticks: Vec<Tick>,
 }
 
-#[derive(Clone)]
+#[derive(Clone, PartialEq, Eq)]
 pub struct Tick {
     pub receiver: usize,
     pub list: Vec<Ballot>,
