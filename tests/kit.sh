@@ -1,5 +1,6 @@
-# Sourced by the tests that link a C program to the archive of the crate vote.
-# It needs the command rt, and the kit that rt stands in. The test sets, before its first call:
+# Sourced where compiled code of the crates is run: by tests that link a C program to the archive of
+# the crate vote, and where the program of a crate is run.
+# It needs the command rt, and the kit that rt stands in. Who sources it sets, before the first call:
 # `name`, its name in messages, and `work`, the folder under target/ for all that it makes.
 
 archive=target/staticlib/libvote.a
@@ -38,6 +39,13 @@ find_kit() {
 
 build_archive() {
     quietly "building the archive" rt staticlib vote
+}
+
+# Proves the program of a crate and builds it: target/bin/NAME. Where nothing has changed, that takes
+# a moment.
+build_crate() { # NAME
+    quietly "building the program $1" rt check "$1" </dev/null
+    [ -x "target/bin/$1" ] || fail "rt check $1 left no target/bin/$1"
 }
 
 # Compiles one C file and links it to the archive: the program $work/NAME.

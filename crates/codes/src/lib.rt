@@ -72,3 +72,10 @@ pub fn phase_of(high: u8, low: u8) -> u16
 {
     high as u16 * 256 + low as u16
 }
+
+// Four bytes, high byte first.
+pub fn word_of(a: u8, b: u8, c: u8, d: u8) -> u32
+    ensures { λ r. ⌜ r ≡ ((a * 256 + b) * 256 + c) * 256 + d ⌝ }
+{
+    ((a as u32 * 256 + b as u32) * 256 + c as u32) * 256 + d as u32
+}

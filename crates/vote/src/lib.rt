@@ -11,6 +11,7 @@ use codes::status_code;
 use codes::status_of;
 use codes::value_code;
 use codes::value_of;
+use codes::word_of;
 use engine::send;
 use engine::start;
 use engine::tick;
@@ -152,13 +153,6 @@ fn record_of(head: Head) -> [u8; 20]
         (blanks / 256 % 256) as u8,
         (blanks % 256) as u8,
     ]
-}
-
-// Four bytes, high byte first.
-fn word_of(a: u8, b: u8, c: u8, d: u8) -> u32
-    ensures { λ r. ⌜ r ≡ ((a * 256 + b) * 256 + c) * 256 + d ⌝ }
-{
-    ((a as u32 * 256 + b as u32) * 256 + c as u32) * 256 + d as u32
 }
 
 // Every byte zero.

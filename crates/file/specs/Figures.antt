@@ -1,0 +1,50 @@
+-- The figures of a run: the bound, the good rounds, the decided heads. Document 01, 'Run file and bench'.
+use Prim.Native.Nat.{ℕ, zero, suc, _+_, _*_, _/_, _-_}
+use mathlib.Core.List.{List}
+use lib.ListN.{length}
+use lib.Dec.{leb}
+use Rattle.rules.specs.declared.Head.{Head}
+use Rattle.rules.specs.Below.{count}
+use Rattle.rules.specs.Heard.{size}
+use Rattle.rules.specs.Head.{isDecided}
+use Rattle.rules.specs.Record.{wordAt}
+use Rattle.file.specs.declared.Plan.{Plan}
+use Rattle.file.specs.declared.Outcome.{Outcome}
+use Rattle.file.specs.Plan.{planOf}
+use Rattle.file.specs.Table.{headOf, rowsIn, tableAfter}
+
+-- "its lost ballots, of n × n": those of the first k rows
+unfoldable pub lostIn : List ℕ → ℕ → ℕ
+lostIn rows zero = 0
+lostIn rows (suc k) = lostIn rows k + size (wordAt rows (k * 4))
+
+-- "at most ceil(n/2) × (n - k) + k - 2"
+unfoldable pub boundOf : ℕ → ℕ → ℕ
+boundOf n k = (n + 1) / 2 * (n - k) + k - 2
+
+-- "A round is good if its lost ballots .. are at most" the bound: how many of the first r rounds are
+abbrev pub goodIn : List ℕ → Plan → ℕ → ℕ
+goodIn file plan rounds = count rounds (λ r. leb (lostIn (rowsIn file plan r) (plan .n)) (boundOf (plan .n) (plan .needed)))
+
+-- "heads whose status is decided"
+abbrev pub decidedIn : List Head → ℕ → ℕ
+decidedIn table n = count n (λ s. isDecided (headOf table s))
+
+-- what the bench answers, when the run has left the table
+unfoldable pub outcomeIn : List ℕ → Plan → ℕ → Outcome
+outcomeIn file plan decided =
+    record {
+      number = plan .number;
+      place = plan .place;
+      n = plan .n;
+      needed = plan .needed;
+      bound = boundOf (plan .n) (plan .needed);
+      rounds = plan .rounds;
+      good = goodIn file plan (plan .rounds);
+      decided = decided;
+    }
+
+unfoldable pub outcomeOf : List ℕ → List Head → Outcome
+outcomeOf file table =
+    let plan = planOf file (length table) in
+    outcomeIn file plan (decidedIn (tableAfter file table) (plan .n))

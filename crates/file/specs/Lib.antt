@@ -1,0 +1,5 @@
+pub mod Section
+pub mod Plan
+pub mod Table
+pub mod Figures
+pub mod Benched

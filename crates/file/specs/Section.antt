@@ -1,0 +1,73 @@
+-- The sections of a run file: "Four sections in this order, each after a two-byte count, high byte first." Document 01, 'Run
+-- file and bench'.
+use Prim.Native.Nat.{ℕ, _+_, _*_, _/_}
+use mathlib.Core.List.{List, []}
+use mathlib.Core.Bool.{Bool, cond, _&&_, not}
+use lib.ListN.{length, getD, take, drop}
+use lib.Dec.{ltb, leb, eqb}
+use Rattle.rules.specs.Below.{first, some}
+use Rattle.rules.specs.Ballot.{notHeads}
+use Rattle.rules.specs.Heard.{overHalf, within}
+use Rattle.rules.specs.Record.{wordAt}
+use Rattle.file.specs.declared.Section.{Section}
+use Rattle.file.specs.declared.Section.the-variants.{Body, Refused}
+
+-- "a two-byte count, high byte first"
+abbrev pub countAt : List ℕ → ℕ → ℕ
+countAt file place = getD file place 0 * 256 + getD file (place + 1) 0
+
+-- "hands back that section's body as the part of the caller's bytes it stands in, an empty part at a refusal"
+abbrev pub bodyOf : List ℕ → Section → List ℕ
+bodyOf file (Body start length) = take length (drop start file)
+bodyOf file (Refused number place) = []
+
+-- "In each section the count is read, then its rule tested, then the body's length": the section whose count stands at a
+-- place. "Place of a refusal: 12, the file's length; 13, the count".
+unfoldable pub counted : List ℕ → ℕ → Bool → ℕ → Section
+counted file at breaks size =
+    cond (ltb (length file) (at + 2)) (Refused 12 (length file))
+    (cond breaks (Refused 13 at)
+    (cond (ltb (length file) (at + 2 + size)) (Refused 12 (length file)) (Body (at + 2) size)))
+
+-- the first of a body's pieces, each of so many bytes, that breaks its rule
+abbrev pub firstBroken : List ℕ → ℕ → (List ℕ → ℕ → Bool) → ℕ
+firstBroken body width breaks = first (length body / width) (λ i. breaks body (i * width))
+
+-- "14, the byte, or the row's first byte", where the first piece that breaks its rule is one of the body's pieces
+unfoldable pub unlessBroken : Section → ℕ → ℕ → ℕ → Section
+unlessBroken (Refused number place) broken pieces width = Refused number place
+unlessBroken (Body start length) broken pieces width = cond (ltb broken pieces) (Refused 14 (start + broken * width)) (Body start length)
+
+-- ".. then its bytes."
+unfoldable pub checked : List ℕ → ℕ → (List ℕ → ℕ → Bool) → Section → Section
+checked file width breaks section =
+    let body = bodyOf file section in
+    unlessBroken section (firstBroken body width breaks) (length body / width) width
+
+-- a byte that is to be "0 or 1", and is not
+abbrev pub notBit : List ℕ → ℕ → Bool
+notBit body at = ltb 1 (getD body at 0)
+
+-- "Count n (2 to 32), then n proposals (0 or 1)."
+unfoldable pub proposalsOf : List ℕ → Section
+proposalsOf file = checked file 1 notBit (counted file 0 (notHeads (countAt file 0)) (countAt file 0))
+
+-- "k, the heads needed: more than n/2, at most n"
+abbrev pub notNeed : ℕ → List ℕ → ℕ → Bool
+notNeed n body at = not (overHalf n (getD body at 0) && leb (getD body at 0) n)
+
+-- "Count 1, then k"
+unfoldable pub neededOf : List ℕ → ℕ → ℕ → Section
+neededOf file at n = checked file 1 (notNeed n) (counted file at (not (eqb (countAt file at) 1)) 1)
+
+-- "Bits from n up are zero."
+abbrev pub notRow : ℕ → List ℕ → ℕ → Bool
+notRow n body at = not (within n (wordAt body at))
+
+-- "Count of rounds, 0 to 256; per round n rows of 4 bytes, high byte first"
+unfoldable pub lossesOf : List ℕ → ℕ → ℕ → Section
+lossesOf file at n = checked file 4 (notRow n) (counted file at (ltb 256 (countAt file at)) (countAt file at * n * 4))
+
+-- "Count n times rounds, then that many coins (0 or 1), round by round, head by head."
+unfoldable pub coinsOf : List ℕ → ℕ → ℕ → Section
+coinsOf file at count = checked file 1 notBit (counted file at (not (eqb (countAt file at) count)) count)

@@ -1,0 +1,51 @@
+-- Looking at a section's bytes: what the code's searches say of the definitions.
+use Prim.Native.Nat.{ℕ, _+_, _*_, _/_, _≤_, _<_}
+use mathlib.Core.Path.{_≡_, refl, sym, ap, ap₂, fun-ext, _∙_}
+use mathlib.Core.List.{List}
+use mathlib.Core.Bool.{Bool, true, false, _&&_, _||_, not}
+use native.Mathlib.Decide.{decLt}
+use native.Mathlib.Omega.{arith}
+use lib.ListN.{length, getD}
+use lib.Dec.{ltb, leb}
+use borrow.Author.Tests.{lt-ltb, le-ltb, le-leb, lt-leb}
+use Rattle.rules.specs.Below.{first}
+use Rattle.rules.proofs.Below.{first-le}
+use Rattle.file.specs.declared.Section.{Section}
+use Rattle.file.specs.Section.{bodyOf, firstBroken, unlessBroken, checked, notBit, notNeed}
+use Rattle.run.specs.Survey.{outside}
+
+pub checked-is : (file body : List ℕ) (section answer : Section) (width broken : ℕ) (breaks : List ℕ → ℕ → Bool) → body ≡ bodyOf file section → broken ≡ firstBroken body width breaks
+    → answer ≡ unlessBroken section broken (length body / width) width → answer ≡ checked file width breaks section
+unfolding checked
+checked-is file body section answer width broken breaks at found e =
+    e ∙ ap (λ (k : ℕ). unlessBroken section k (length body / width) width) found
+    ∙ ap (λ (part : List ℕ). unlessBroken section (firstBroken part width breaks) (length part / width) width) at
+
+-- pieces of one byte are bytes
+pub by-one : (k : ℕ) (p : ℕ → Bool) → first k p ≡ first (k / 1) (λ i. p (i * 1))
+by-one k p =
+    let all : k ≡ k / 1 = omega arith in
+    ap₂ first all (fun-ext (λ i. ap p (once i)))
+  where
+    once : (i : ℕ) → i ≡ i * 1
+    once i = omega arith
+
+-- what is found is within what was searched
+pub found-small : (k broken : ℕ) (p : ℕ → Bool) → broken ≡ first k p → k ≤ 8388480 → broken ≤ 8388480
+found-small k broken p e h = omega (arith, e, first-le k p)
+
+-- "0 or 1"
+pub outside-bits : outside 0 1 ≡ notBit
+outside-bits = fun-ext (λ body. fun-ext (λ at. ap (λ (t : Bool). t || ltb 1 (getD body at 0)) (le-ltb (getD body at 0) 0 (omega arith))))
+
+-- "more than n/2, at most n"
+pub outside-need : (n : ℕ) → outside (n / 2 + 1) n ≡ notNeed n
+outside-need n = fun-ext (λ body. fun-ext (λ at. one (getD body at 0)))
+  where
+    one : (k : ℕ) → ltb k (n / 2 + 1) || ltb n k ≡ not (ltb n (k * 2) && leb k n)
+    one k = go (decLt n (k * 2)) (decLt n k)
+      where
+        go : Dec (n < k * 2) → Dec (n < k) → ltb k (n / 2 + 1) || ltb n k ≡ not (ltb n (k * 2) && leb k n)
+        go (yes a) (yes b) = rw (lt-ltb n k b, le-ltb k (n / 2 + 1) (omega arith), lt-ltb n (k * 2) a, lt-leb k n b) refl
+        go (yes a) (no b) = rw (le-ltb n k (omega arith), le-ltb k (n / 2 + 1) (omega arith), lt-ltb n (k * 2) a, le-leb k n (omega arith)) refl
+        go (no a) b = rw (lt-ltb k (n / 2 + 1) (omega arith), le-ltb n (k * 2) (omega arith)) refl

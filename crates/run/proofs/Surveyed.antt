@@ -1,0 +1,93 @@
+-- What a survey shows: the ballots of the heads, and how many are decided; and so a round of the code is a round of document
+-- 01.
+use Prim.Native.Nat.{ℕ, zero, suc, _+_, _*_, _≤_, _<_}
+use mathlib.Core.Path.{_≡_, refl, sym, ap, ap₂, _∙_}
+use mathlib.Core.List.{List, _++_}
+use mathlib.Core.Bool.{cond}
+use native.Mathlib.Decide.{ℕ-discrete}
+use native.Mathlib.Omega.{arith}
+use lib.ListN.{length, getD, set, length-set, length-replicate}
+use lib.Dec.{eqb}
+use lib.Seq.{getD-set-same, getD-set-other}
+use Rattle.rules.specs.declared.Status.{Status}
+use Rattle.rules.specs.declared.Status.the-variants.{Undecided, Decided}
+use Rattle.rules.specs.declared.Ballot.{Ballot}
+use Rattle.rules.specs.declared.Head.{Head}
+use Rattle.rules.specs.Below.{count}
+use Rattle.rules.specs.Ballot.{statusCode, bytesOf, zeroBallot}
+use Rattle.rules.specs.Heard.{member}
+use Rattle.rules.specs.Head.{zeroHead, isDecided, ballotOf}
+use Rattle.rules.specs.Tick.{tickOf}
+use Rattle.rules.specs.Record.{wordAt}
+use Rattle.rules.proofs.Below.{count-le}
+use Rattle.file.specs.Table.{headOf, placed, receivedIn, tickedIn, roundIn}
+use Rattle.file.specs.Figures.{decidedIn}
+use Rattle.run.specs.declared.heads.Survey.{Survey}
+use Rattle.run.specs.Survey.{noSurvey, noted, surveyOf, withHeard, receivedFrom, tickedBy, tickedAll}
+
+-- ---- how many are decided
+
+status-counts : (h : Head) → statusCode (h .status) ≡ cond (isDecided h) 1 0
+status-counts h = go (h .status)
+  where
+    go : (s : Status) → statusCode s ≡ cond (eqb (statusCode s) 1) 1 0
+    go Undecided = refl
+    go Decided = refl
+
+pub survey-counts : (n : ℕ) (table : List Head) → surveyOf n table .decided ≡ decidedIn table n
+unfolding surveyOf noted count
+survey-counts zero table = refl
+survey-counts (suc k) table = ap₂ (λ (a b : ℕ). a + b) (survey-counts k table) (status-counts (headOf table k))
+
+pub survey-decided : (k : ℕ) (table : List Head) → surveyOf k table .decided ≤ k
+survey-decided k table = omega (arith, survey-counts k table, count-le k (λ s. isDecided (headOf table s)))
+
+-- ---- the ballots
+
+ballots-length : (k : ℕ) (table : List Head) → length (surveyOf k table .ballots) ≡ 32
+unfolding surveyOf noted
+ballots-length zero table = length-replicate 32 zeroBallot
+ballots-length (suc k) table = length-set (surveyOf k table .ballots) k (ballotOf (headOf table k)) ∙ ballots-length k table
+
+-- each head's ballot is at its number
+shows-ballot : (k : ℕ) (table : List Head) (s : ℕ) → s < k → k ≤ 32 → getD (surveyOf k table .ballots) s zeroBallot ≡ ballotOf (headOf table s)
+unfolding surveyOf noted
+shows-ballot zero table s h small = absurd (omega arith)
+shows-ballot (suc k) table s h small = go (ℕ-discrete s k) (shows-ballot k table s)
+  where
+    before : List Ballot
+    before = surveyOf k table .ballots
+
+    go : Dec (s ≡ k) → (s < k → k ≤ 32 → getD before s zeroBallot ≡ ballotOf (headOf table s)) → getD (set before k (ballotOf (headOf table k))) s zeroBallot ≡ ballotOf (headOf table s)
+    go (yes e) f = rw e (getD-set-same before k (ballotOf (headOf table k)) zeroBallot (omega (arith, ballots-length k table)))
+    go (no e) f = getD-set-other before k s (ballotOf (headOf table k)) zeroBallot e ∙ f (omega (arith, e)) (omega arith)
+
+-- so what is received from the survey is what is received from the heads
+received-is : (n : ℕ) (table : List Head) (lost k : ℕ) → k ≤ n → n ≤ 32 → receivedFrom (surveyOf n table .ballots) lost k ≡ receivedIn table lost k
+unfolding receivedFrom
+received-is n table lost zero h small = refl
+received-is n table lost (suc k) h small =
+    ap₂ (λ (list : List ℕ) (b : Ballot). withHeard list b (member k lost)) (received-is n table lost k (omega arith) small) (shows-ballot n table k h small)
+
+-- ---- the ticks
+
+-- the heads from k on are as they were
+rest : (before : Survey) (n : ℕ) (rows coins : List ℕ) (k : ℕ) (table : List Head) (s : ℕ) → k ≤ s → headOf (tickedAll before n rows coins k table) s ≡ headOf table s
+unfolding tickedAll
+rest before n rows coins zero table s h = refl
+rest before n rows coins (suc k) table s h =
+    getD-set-other (tickedAll before n rows coins k table) k s _ zeroHead (λ e. omega (arith, e)) ∙ rest before n rows coins k table s (omega arith)
+
+-- a round of the code is a round of document 01
+pub round-is : (n : ℕ) (rows coins : List ℕ) (table : List Head) → n ≤ 32 → tickedAll (surveyOf n table) n rows coins n table ≡ roundIn n rows coins table
+unfolding roundIn tickedAll placed tickedBy
+round-is n rows coins table small = go n (omega arith)
+  where
+    before : Survey
+    before = surveyOf n table
+
+    go : (k : ℕ) → k ≤ n → tickedAll before n rows coins k table ≡ placed k (tickedIn n rows coins table) table
+    go zero h = refl
+    go (suc k) h =
+        ap₂ (λ (t : List Head) (g : Head). set t k g) (go k (omega arith))
+        (ap₂ (λ (g : Head) (list : List ℕ). tickOf g list (getD coins k 0) .head) (rest before n rows coins k table k (omega arith)) (received-is n table (wordAt rows (k * 4)) n (omega arith) small))

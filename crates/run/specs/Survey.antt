@@ -1,0 +1,52 @@
+-- What the functions of `run` hand to one another: the ballots of a round, formed from the table before it, and the ticks
+-- with them.
+use Prim.Native.Nat.{ℕ, zero, suc, _+_, _*_}
+use mathlib.Core.List.{List, [], _∷_, _++_}
+use mathlib.Core.Bool.{Bool, cond, _||_}
+use lib.ListN.{getD, set, replicate}
+use lib.Dec.{ltb}
+use Rattle.rules.specs.declared.Ballot.{Ballot}
+use Rattle.rules.specs.declared.Head.{Head}
+use Rattle.rules.specs.Ballot.{statusCode, bytesOf, zeroBallot}
+use Rattle.rules.specs.Heard.{member}
+use Rattle.rules.specs.Head.{ballotOf}
+use Rattle.rules.specs.Tick.{tickOf}
+use Rattle.rules.specs.Record.{wordAt}
+use Rattle.file.specs.Table.{headOf, placed}
+use Rattle.run.specs.declared.heads.Survey.{Survey}
+
+abbrev pub noSurvey : Survey
+noSurvey = record { ballots = replicate 32 zeroBallot; decided = 0 }
+
+-- a survey with head i in it
+unfoldable pub noted : Survey → ℕ → Head → Survey
+noted before i h =
+    record { ballots = set (before .ballots) i (ballotOf h); decided = before .decided + statusCode (h .status) }
+
+-- of the first k heads of a table
+unfoldable pub surveyOf : ℕ → List Head → Survey
+surveyOf zero table = noSurvey
+surveyOf (suc k) table = noted (surveyOf k table) k (headOf table k)
+
+-- a list of ballots, and one more unless it is lost
+abbrev pub withHeard : List ℕ → Ballot → Bool → List ℕ
+withHeard list ballot lost = list ++ cond lost [] (bytesOf ballot)
+
+-- the first k of the ballots that are not lost, in sender order
+unfoldable pub receivedFrom : List Ballot → ℕ → ℕ → List ℕ
+receivedFrom ballots lost zero = []
+receivedFrom ballots lost (suc k) = withHeard (receivedFrom ballots lost k) (getD ballots k zeroBallot) (member k lost)
+
+-- head i after its tick
+unfoldable pub tickedBy : Survey → ℕ → List ℕ → List ℕ → ℕ → Head → Head
+tickedBy before n rows coins i h = tickOf h (receivedFrom (before .ballots) (wordAt rows (i * 4)) n) (getD coins i 0) .head
+
+-- the table when the first k heads have been ticked
+unfoldable pub tickedAll : Survey → ℕ → List ℕ → List ℕ → ℕ → List Head → List Head
+tickedAll before n rows coins zero table = table
+tickedAll before n rows coins (suc k) table =
+    set (tickedAll before n rows coins k table) k (tickedBy before n rows coins k (headOf (tickedAll before n rows coins k table) k))
+
+-- a byte below low or above high
+abbrev pub outside : ℕ → ℕ → List ℕ → ℕ → Bool
+outside low high bytes at = ltb (getD bytes at 0) low || ltb high (getD bytes at 0)

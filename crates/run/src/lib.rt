@@ -1,0 +1,12 @@
+// The bench: whole votes from a run file, in a lent table of heads, and the report's text.
+//
+// Nothing public has a `requires`: every file has its answer, and each promise cites the definition
+// of crate `file` that gives it.
+mod figures;
+mod heads;
+mod plans;
+mod sections;
+mod table;
+
+pub use table::bench;
+pub use table::run_file;

@@ -1,0 +1,113 @@
+// A whole run file: its sections one after the other.
+ghost use mathlib.Core.Path.{_≡_};
+ghost use Prim.Native.Nat.{_≤_};
+ghost use lib.ListN.{length};
+ghost use Rattle.file.specs.Plan.{refusedPlan, taken, closed as closedOf, afterLosses, afterNeeded, afterProposals, planOf};
+use crate::sections::byte_at;
+use crate::sections::coins;
+use crate::sections::count_at;
+use crate::sections::losses;
+use crate::sections::needed;
+use crate::sections::proposals;
+use file::Plan;
+use file::Section;
+
+// What the file says, for a table with room for so many heads. "Each section's answer is taken
+// apart, body or refusal with its place, before the next is read."
+pub(crate) fn plan_of(file: &[u8], room: usize) -> Plan
+    ensures { λ r. ⌜ r ≡ planOf (now (file .entry)) room ⌝ }
+{
+    let section = proposals(file);
+    let Section::Body { start, length } = section else {
+        return refused_by(section);
+    };
+    after_proposals(file, room, start + length, length)
+}
+
+fn after_proposals(file: &[u8], room: usize, at: usize, n: usize) -> Plan
+    requires { ⌜ (at ≤ 34) × (n ≤ 32) ⌝ }
+    ensures { λ r. ⌜ r ≡ afterProposals (now (file .entry)) room at n ⌝ }
+{
+    let section = needed(file, at, n);
+    let Section::Body { start, length } = section else {
+        return refused_by(section);
+    };
+    let k = byte_at(file, start) as usize;
+    after_needed(file, room, start + length, n, k)
+}
+
+fn after_needed(file: &[u8], room: usize, at: usize, n: usize, k: usize) -> Plan
+    requires { ⌜ (at ≤ 37) × (n ≤ 32) ⌝ }
+    ensures { λ r. ⌜ r ≡ afterNeeded (now (file .entry)) room at n k ⌝ }
+{
+    let section = losses(file, at, n);
+    let Section::Body { start, length } = section else {
+        return refused_by(section);
+    };
+    let rounds = count_at(file, at);
+    after_losses(file, room, start + length, n, k, rounds, start)
+}
+
+fn after_losses(
+    file: &[u8],
+    room: usize,
+    at: usize,
+    n: usize,
+    k: usize,
+    rounds: usize,
+    rows: usize,
+) -> Plan
+    requires { ⌜ (at ≤ 32807) × (n ≤ 32) × (rounds ≤ 256) ⌝ }
+    ensures { λ r. ⌜ r ≡ afterLosses (now (file .entry)) room at n k rounds rows ⌝ }
+{
+    let section = coins(file, at, rounds * n);
+    let Section::Body { start, length } = section else {
+        return refused_by(section);
+    };
+    let plan = Plan {
+        number: 0,
+        place: 0,
+        n: n,
+        needed: k,
+        rounds: rounds,
+        losses: rows,
+        coins: start,
+    };
+    closed(file.len(), room, start + length, plan)
+}
+
+// "15, the first extra byte; 16, place 0"
+fn closed(length: usize, room: usize, end: usize, plan: Plan) -> Plan
+    ensures { λ r. ⌜ r ≡ closedOf length room end plan ⌝ }
+{
+    if end < length {
+        return refused(15, end);
+    }
+    if room < plan.n {
+        return refused(16, 0);
+    }
+    plan
+}
+
+fn refused_by(section: Section) -> Plan
+    ensures { λ r. ⌜ r ≡ taken section (λ start length. refusedPlan 0 0) ⌝ }
+{
+    let Section::Refused { number, place } = section else {
+        return refused(0, 0);
+    };
+    refused(number, place)
+}
+
+fn refused(number: u8, place: usize) -> Plan
+    ensures { λ r. ⌜ r ≡ refusedPlan number place ⌝ }
+{
+    Plan {
+        number: number,
+        place: place,
+        n: 0,
+        needed: 0,
+        rounds: 0,
+        losses: 0,
+        coins: 0,
+    }
+}

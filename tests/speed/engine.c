@@ -1,0 +1,362 @@
+/*
+ * The engine of one head, for speed: the list is read once, and what it says at the head's phase is
+ * gathered in sets of heads, one bit a head. Only ballots of other phases are looked up.
+ */
+#include "engine.h"
+
+/* Kept out of the loop over the list, so that what the loop gathers stays in registers. */
+#define APART __attribute__((noinline))
+
+#define EACH_WAY(a, b, c) (((a) & (b)) | ((a) & (c)) | ((b) & (c)))
+
+/* The codes that a phase allows: bit 2 * value + status. */
+enum {
+    ALLOWED_FIRST = 0x05,
+    ALLOWED_SECOND = 0x15,
+    ALLOWED_ODD = 0x0F,
+    ALLOWED_EVEN = 0x1F
+};
+
+/* What the list says at one phase, in sets of senders. */
+struct said {
+    uint32_t zeros, ones, blanks, undecided, decided;
+};
+
+/* The ballots of other phases than the head's: per sender a chain, newest first, and the highest
+ * phase with what is said at it. An index in a chain is one more than the ballot's. */
+struct others {
+    uint8_t newest[32], before[BALLOTS_BYTES_MOST / BALLOT_BYTES];
+    uint32_t own_ahead, differ;
+    uint32_t phase, leader, leader_value, leader_status;
+    uint32_t zeros, ones, blanks;
+};
+
+static uint32_t allowed_at(uint32_t phase);
+static int sound(const struct quick_head *head);
+APART static int read_list(const struct quick_head *head, const uint8_t *list, size_t count,
+                           struct said *said, struct others *others);
+APART static int look_up(const struct quick_head *head, const uint8_t *list, size_t i,
+                         struct others *others);
+static uint32_t low_first(const uint8_t *at);
+static void follow(const uint8_t *ballot, uint32_t phase, struct others *others);
+static uint32_t clash(const struct quick_head *head, const struct said *said,
+                      const struct others *others);
+static uint32_t finish(struct quick_head *head, uint32_t coin);
+static void step(struct quick_head *head, uint32_t coin);
+
+/* ---- The tick */
+
+uint32_t quick_tick_head(struct quick_head *head, const uint8_t *ballots, size_t ballots_len,
+                         uint32_t coin)
+{
+    struct quick_head after = *head;
+    struct said said;
+    struct others others;
+    uint32_t number;
+    if (!sound(head))
+        return 3;
+    if (coin > 1)
+        return 4;
+    if (ballots_len > BALLOTS_BYTES_MOST || ballots_len % BALLOT_BYTES != 0)
+        return 5;
+    if (ballots_len != 0) {
+        if (!read_list(head, ballots, ballots_len / BALLOT_BYTES, &said, &others))
+            return 6;
+        number = clash(head, &said, &others);
+        if (number != 0)
+            return number;
+        if (others.phase > head->phase) {
+            after.phase = others.phase;
+            after.value = others.leader_value;
+            after.status = others.leader_status;
+            after.zeros = others.zeros;
+            after.ones = others.ones;
+            after.blanks = others.blanks;
+        } else {
+            after.zeros |= said.zeros;
+            after.ones |= said.ones;
+            after.blanks |= said.blanks;
+        }
+    }
+    number = finish(&after, coin);
+    if (number == 0)
+        *head = after;
+    return number;
+}
+
+/* 0 where a ballot breaks a ballot rule: that number comes before all that the rest can find.
+ * `code` is a ballot's value and status, low byte first, where its phase is the head's; else it has
+ * a higher bit set too. A set of two halves has value or status 0 below and 1 above. */
+APART static int read_list(const struct quick_head *head, const uint8_t *list, size_t count,
+                           struct said *said, struct others *others)
+{
+    const uint32_t n = head->n, allowed = allowed_at(head->phase);
+    const uint32_t present = (head->phase >> 8) << 16 | (head->phase & 0xFF) << 24;
+    uint64_t values = 0, statuses = 0;
+    uint32_t blanks = 0;
+    size_t i;
+    others->phase = others->own_ahead = others->differ = 0;
+    for (i = 0; i < sizeof others->newest; i++)
+        others->newest[i] = 0;
+    for (i = 0; i < count; i++) {
+        const uint8_t *ballot = list + i * BALLOT_BYTES;
+        const uint32_t sender = ballot[0], code = low_first(ballot + 1) ^ present;
+        const uint32_t value = code & 3, status = code >> 8, blank = value >> 1;
+        if (code > 0xFFFF) {
+            if (!look_up(head, list, i, others))
+                return 0;
+            continue;
+        }
+        if ((sender >= n) | ((code & ~0x103u) != 0) | !(allowed >> ((2 * value + status) & 31) & 1))
+            return 0;
+        values |= (uint64_t)(1 ^ blank) << (sender | (value & 1) << 5);
+        statuses |= (uint64_t)1 << (sender | status << 5);
+        blanks |= blank << sender;
+    }
+    *said = (struct said){ (uint32_t)values, (uint32_t)(values >> 32), blanks, (uint32_t)statuses,
+                           (uint32_t)(statuses >> 32) };
+    return 1;
+}
+
+/* A ballot of another phase: against its sender's earlier ones, then towards the highest phase. */
+APART static int look_up(const struct quick_head *head, const uint8_t *list, size_t i,
+                         struct others *others)
+{
+    const uint8_t *ballot = list + i * BALLOT_BYTES;
+    const uint32_t sender = ballot[0], state = low_first(ballot + 1);
+    const uint32_t phase = (uint32_t)ballot[3] << 8 | ballot[4];
+    uint32_t earlier;
+    if (sender >= head->n || ballot[1] > BLANK || ballot[2] > DECIDED
+        || !(allowed_at(phase) >> (2 * ballot[1] + ballot[2]) & 1))
+        return 0;
+    for (earlier = others->newest[sender]; earlier != 0; earlier = others->before[earlier - 1]) {
+        const uint32_t unlike = low_first(list + (earlier - 1) * BALLOT_BYTES + 1) ^ state;
+        if (unlike > 0xFFFF)
+            continue;
+        others->differ |= unlike;
+        return 1;
+    }
+    others->before[i] = others->newest[sender];
+    others->newest[sender] = (uint8_t)(i + 1);
+    if (phase > head->phase) {
+        others->own_ahead |= sender == head->own;
+        follow(ballot, phase, others);
+    }
+    return 1;
+}
+
+/* The four bytes after the sender, as one number: equal phases give equal upper halves. */
+static uint32_t low_first(const uint8_t *at)
+{
+    return (uint32_t)at[3] << 24 | (uint32_t)at[2] << 16 | (uint32_t)at[1] << 8 | at[0];
+}
+
+/* Step 2: the highest phase, its sets, and the state that its lowest sender gives. */
+static void follow(const uint8_t *ballot, uint32_t phase, struct others *others)
+{
+    const uint32_t bit = (uint32_t)1 << ballot[0];
+    if (phase < others->phase)
+        return;
+    if (phase > others->phase) {
+        others->phase = phase;
+        others->leader = 32;
+        others->zeros = others->ones = others->blanks = 0;
+    }
+    if (ballot[0] < others->leader) {
+        others->leader = ballot[0];
+        others->leader_value = ballot[1];
+        others->leader_status = ballot[2];
+    }
+    others->zeros |= ballot[1] == ZERO ? bit : 0;
+    others->ones |= ballot[1] == ONE ? bit : 0;
+    others->blanks |= ballot[1] == BLANK ? bit : 0;
+}
+
+/* Numbers 7 and 8. At the head's phase a sender that says two things stands in two sets. */
+static uint32_t clash(const struct quick_head *head, const struct said *said,
+                      const struct others *others)
+{
+    const uint32_t own = (uint32_t)1 << head->own;
+    const uint32_t other_value = (head->value == ZERO ? 0 : said->zeros)
+        | (head->value == ONE ? 0 : said->ones) | (head->value == BLANK ? 0 : said->blanks);
+    const uint32_t other_status = head->status == DECIDED ? said->undecided : said->decided;
+    const uint32_t zeros = head->zeros | said->zeros, ones = head->ones | said->ones;
+    const uint32_t blanks = head->blanks | said->blanks;
+    if (others->own_ahead | ((other_value | other_status) & own))
+        return 7;
+    if (others->differ | EACH_WAY(zeros, ones, blanks) | (said->undecided & said->decided))
+        return 8;
+    return 0;
+}
+
+/* Numbers 9 to 11, and steps 3 and 4. */
+static uint32_t finish(struct quick_head *head, uint32_t coin)
+{
+    const uint32_t all = head->zeros | head->ones | head->blanks;
+    if (head->phase % 2 == 0 && head->zeros != 0 && head->ones != 0)
+        return 9;
+    if (2 * (uint32_t)__builtin_popcount(all) > head->n) {
+        if (head->phase == 65535)
+            return 10;
+        step(head, coin);
+    }
+    if (head->status == DECIDED) {
+        if (head->value == BLANK || (head->decision != NONE && head->decision != head->value))
+            return 11;
+        head->decision = head->value;
+    }
+    return 0;
+}
+
+static void step(struct quick_head *head, uint32_t coin)
+{
+    const int most_zero = 2 * (uint32_t)__builtin_popcount(head->zeros) > head->n;
+    const int most_one = 2 * (uint32_t)__builtin_popcount(head->ones) > head->n;
+    if (head->phase % 2 == 1) {
+        head->value = most_zero ? ZERO : most_one ? ONE : BLANK;
+    } else {
+        if (most_zero || most_one)
+            head->status = DECIDED;
+        head->value = head->zeros != 0 ? ZERO : head->ones != 0 ? ONE : coin;
+    }
+    head->phase++;
+    head->zeros = head->ones = head->blanks = 0;
+}
+
+/* ---- Rules */
+
+static uint32_t allowed_at(uint32_t phase)
+{
+    if (phase > 2)
+        return phase % 2 == 1 ? ALLOWED_ODD : ALLOWED_EVEN;
+    return phase == 1 ? ALLOWED_FIRST : phase == 2 ? ALLOWED_SECOND : 0;
+}
+
+/* The codes of value, status and decision are in range: a record is tested before it is read. */
+static int sound(const struct quick_head *head)
+{
+    const uint32_t zeros = head->zeros, ones = head->ones, blanks = head->blanks;
+    const uint32_t all = zeros | ones | blanks;
+    uint32_t own, under;
+    if (head->n < 2 || head->n > 32 || head->own >= head->n)
+        return 0;
+    if (!(allowed_at(head->phase) >> (2 * head->value + head->status) & 1))
+        return 0;
+    if (head->status == DECIDED && head->decision != head->value)
+        return 0;
+    if (head->decision != NONE && head->phase < 3)
+        return 0;
+    if (EACH_WAY(zeros, ones, blanks) != 0 || (uint64_t)all >> head->n != 0)
+        return 0;
+    if (head->phase % 2 == 1 ? blanks != 0 : zeros != 0 && ones != 0)
+        return 0;
+    own = (uint32_t)1 << head->own;
+    under = head->value == ZERO ? zeros : head->value == ONE ? ones : blanks;
+    return (all & ~under & own) == 0;
+}
+
+uint32_t quick_start_head(struct quick_head *head, uint32_t n, uint32_t own, uint32_t proposal)
+{
+    if (n < 2 || n > 32 || own >= n)
+        return 1;
+    if (proposal > 1)
+        return 2;
+    *head = (struct quick_head){ n, own, 1, proposal, UNDECIDED, NONE, 0, 0, 0 };
+    return 0;
+}
+
+void quick_write_ballot(const struct quick_head *head, uint8_t *ballot)
+{
+    ballot[0] = (uint8_t)head->own;
+    ballot[1] = (uint8_t)head->value;
+    ballot[2] = (uint8_t)head->status;
+    ballot[3] = (uint8_t)(head->phase >> 8);
+    ballot[4] = (uint8_t)head->phase;
+}
+
+/* ---- Records */
+
+static uint32_t word_at(const uint8_t *at)
+{
+    return (uint32_t)at[0] << 24 | (uint32_t)at[1] << 16 | (uint32_t)at[2] << 8 | at[3];
+}
+
+static void put_word(uint8_t *at, uint32_t word)
+{
+    at[0] = (uint8_t)(word >> 24);
+    at[1] = (uint8_t)(word >> 16);
+    at[2] = (uint8_t)(word >> 8);
+    at[3] = (uint8_t)word;
+}
+
+/* 0 where the record has another length or a byte outside the codes. */
+static int load(struct quick_head *head, const uint8_t *record, size_t record_len)
+{
+    if (record_len != RECORD_BYTES)
+        return 0;
+    if (record[4] > BLANK || record[5] > DECIDED || record[6] > NONE || record[7] != 0)
+        return 0;
+    *head = (struct quick_head){
+        record[0], record[1], (uint32_t)record[2] << 8 | record[3], record[4], record[5],
+        record[6], word_at(record + 8), word_at(record + 12), word_at(record + 16),
+    };
+    return 1;
+}
+
+static void store(uint8_t *record, const struct quick_head *head)
+{
+    record[0] = (uint8_t)head->n;
+    record[1] = (uint8_t)head->own;
+    record[2] = (uint8_t)(head->phase >> 8);
+    record[3] = (uint8_t)head->phase;
+    record[4] = (uint8_t)head->value;
+    record[5] = (uint8_t)head->status;
+    record[6] = (uint8_t)head->decision;
+    record[7] = 0;
+    put_word(record + 8, head->zeros);
+    put_word(record + 12, head->ones);
+    put_word(record + 16, head->blanks);
+}
+
+uint32_t quick_start(uint8_t *record, size_t record_len, uint32_t n, uint32_t own,
+                     uint32_t proposal)
+{
+    struct quick_head head;
+    const uint32_t number = quick_start_head(&head, n, own, proposal);
+    if (number != 0)
+        return number;
+    if (record_len != RECORD_BYTES)
+        return 3;
+    store(record, &head);
+    return 0;
+}
+
+uint32_t quick_tick(uint8_t *record, size_t record_len, const uint8_t *ballots, size_t ballots_len,
+                    uint32_t coin)
+{
+    struct quick_head head;
+    uint32_t number;
+    if (!load(&head, record, record_len))
+        return 3;
+    number = quick_tick_head(&head, ballots, ballots_len, coin);
+    if (number == 0)
+        store(record, &head);
+    return number;
+}
+
+uint32_t quick_ballot(const uint8_t *record, size_t record_len, uint8_t *ballot, size_t ballot_len)
+{
+    struct quick_head head;
+    uint32_t number = 0;
+    size_t i;
+    if (!load(&head, record, record_len) || !sound(&head))
+        number = 3;
+    else if (ballot_len != BALLOT_BYTES)
+        number = 5;
+    if (number == 0)
+        quick_write_ballot(&head, ballot);
+    else
+        for (i = 0; i < ballot_len; i++)
+            ballot[i] = 0;
+    return number;
+}
