@@ -1,7 +1,7 @@
 /*
  * engine.h: the engine of one head in plain C, written for speed, to measure the proved one by.
  *
- * It is written from document 01 alone and has the interface of vote.h under other names. Nothing
+ * It is written from document 01 and has the interface of vote.h under other names. Nothing
  * is proved of it. The firmware has no use for it.
  */
 #ifndef QUICK_ENGINE_H

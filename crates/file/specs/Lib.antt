@@ -3,3 +3,4 @@ pub mod Plan
 pub mod Table
 pub mod Figures
 pub mod Benched
+pub mod Report

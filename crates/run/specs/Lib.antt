@@ -1,2 +1,3 @@
 pub mod Survey
 pub mod Small
+pub mod Writing

@@ -4,9 +4,12 @@
 // of crate `file` that gives it.
 mod figures;
 mod heads;
+mod lines;
 mod plans;
 mod sections;
 mod table;
+mod text;
 
+pub use lines::report;
 pub use table::bench;
 pub use table::run_file;

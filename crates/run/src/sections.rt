@@ -216,7 +216,7 @@ fn not_heads(n: usize) -> bool
     !((2 <= n) & (n <= 32))
 }
 
-fn least(a: usize, b: usize) -> usize
+pub(crate) fn least(a: usize, b: usize) -> usize
     ensures { λ r. ⌜ r ≡ min a b ⌝ }
     ensures { λ r. ⌜ r ≤ b ⌝ }
 {

@@ -247,65 +247,65 @@ module _ (counts : Counts) {M : Type 1} (𝓤 : URA M) (H : Heap 𝓤) (A : Atom
       -- from the call of `outcome` on
       answers : (zs : List Head) (v : Survey) → Is S v (machS v ∷ []) → zs ≡ tableAfter (fx .now) ys → length zs ≡ length ys → v ≡ surveyOf (p .n) zs → Sq W (At zs (fat fullShare surveyTy l₅ 0 (machS v))) (runs C Λ En pieces.t-13 (atRet En Post))
       answers zs v is ez len ev =
-        move ! (3 ∷ []) $ bytes-copied ! fx $ move ! (4 ∷ 0 ∷ []) $ use2 W (raw (OutcomeAt 𝓤 H A mem run .pre (to-outcome v))) (goes-outcome v is) $
-        -- [what `outcome` asks; what the file owns; the table; its token; _13; …]
-        calls-at ! fm (OutcomeAt 𝓤 H A mem run) known-outcome (to-outcome v) (and-then ! (load ! (from ! (stop !)) (look ! 28 refl)) (and-then ! (load ! (from ! (stop !)) (look ! 24 refl)) (and-then ! (load ! (from ! (stop !)) (look ! 20 refl)) (no-more !)))) (λ w.
-        answered ! tt outcome.ended (κ′, tt) (fx, (p, (v, tt))) O.the-row (‵ (flft κ′ q′) ⊛ ‵ ftrue) w (λ (r : Outcome). r ≡ outcomeIn (fx .now) p (v .decided)) (λ r er io.
-        -- [the answer; the file's token, and true; what the file owns; the table; its token; _13; …]
-        land ! (from ! (stop !)) (init ! 31 refl (LL.lawful O.the-type O′.the-laws 𝓤 H A W .typed r _ io .0)) $
-        returns ! (look ! 31 refl) $ forget ! 21 refl $ forget ! 23 refl $ forget ! 25 refl $ forget ! 27 refl $ forget ! 29 refl $ forget ! 31 refl $
-        move ! (31 ∷ 32 ∷ []) $ free1 ! $ move ! (29 ∷ 30 ∷ []) $ free1 ! $ move ! (27 ∷ 28 ∷ []) $ free1 ! $ move ! (25 ∷ 26 ∷ []) $ free1 ! $ move ! (23 ∷ 24 ∷ []) $ free1 ! $ move ! (21 ∷ 22 ∷ []) $ free1 ! $ move ! (19 ∷ 20 ∷ []) $ free1 ! $ move ! (17 ∷ 18 ∷ []) $ free1 ! $ move ! (15 ∷ 16 ∷ []) $ free1 ! $ move ! (13 ∷ 14 ∷ []) $ free1 ! $ move ! (11 ∷ 12 ∷ []) $ free1 ! $ move ! (9 ∷ 10 ∷ []) $ free1 ! $ move ! (7 ∷ 8 ∷ []) $ free1 ! $ move ! (5 ∷ 6 ∷ []) $ free1 ! $ free0 ! $
-        move ! (1 ∷ []) $ split ! $ keep ! (4 ∷ 5 ∷ 0 ∷ 3 ∷ []) $ by ! (exits r w zs io (er ∙ answer-is counts (fx .now) ys zs p v planned ez ev) ez len)))
+          move ! (3 ∷ []) $ bytes-copied ! fx $ move ! (4 ∷ 0 ∷ []) $ use2 W (raw (OutcomeAt 𝓤 H A mem run .pre (to-outcome v))) (goes-outcome v is) $
+          -- [what `outcome` asks; what the file owns; the table; its token; _13; …]
+          calls-at ! fm (OutcomeAt 𝓤 H A mem run) known-outcome (to-outcome v) (and-then ! (load ! (from ! (stop !)) (look ! 28 refl)) (and-then ! (load ! (from ! (stop !)) (look ! 24 refl)) (and-then ! (load ! (from ! (stop !)) (look ! 20 refl)) (no-more !)))) (λ w.
+          answered ! tt outcome.ended (κ′, tt) (fx, (p, (v, tt))) O.the-row (‵ (flft κ′ q′) ⊛ ‵ ftrue) w (λ (r : Outcome). r ≡ outcomeIn (fx .now) p (v .decided)) (λ r er io.
+          -- [the answer; the file's token, and true; what the file owns; the table; its token; _13; …]
+          land ! (from ! (stop !)) (init ! 31 refl (LL.lawful O.the-type O′.the-laws 𝓤 H A W .typed r _ io .0)) $
+          returns ! (look ! 31 refl) $ forget ! 21 refl $ forget ! 23 refl $ forget ! 25 refl $ forget ! 27 refl $ forget ! 29 refl $ forget ! 31 refl $
+          move ! (31 ∷ 32 ∷ []) $ free1 ! $ move ! (29 ∷ 30 ∷ []) $ free1 ! $ move ! (27 ∷ 28 ∷ []) $ free1 ! $ move ! (25 ∷ 26 ∷ []) $ free1 ! $ move ! (23 ∷ 24 ∷ []) $ free1 ! $ move ! (21 ∷ 22 ∷ []) $ free1 ! $ move ! (19 ∷ 20 ∷ []) $ free1 ! $ move ! (17 ∷ 18 ∷ []) $ free1 ! $ move ! (15 ∷ 16 ∷ []) $ free1 ! $ move ! (13 ∷ 14 ∷ []) $ free1 ! $ move ! (11 ∷ 12 ∷ []) $ free1 ! $ move ! (9 ∷ 10 ∷ []) $ free1 ! $ move ! (7 ∷ 8 ∷ []) $ free1 ! $ move ! (5 ∷ 6 ∷ []) $ free1 ! $ free0 ! $
+          move ! (1 ∷ []) $ split ! $ keep ! (4 ∷ 5 ∷ 0 ∷ 3 ∷ []) $ by ! (exits r w zs io (er ∙ answer-is counts (fx .now) ys zs p v planned ez ev) ez len)))
 
       -- from the call of `survey` on
       surveys : (zs : List Head) → zs ≡ tableAfter (fx .now) ys → length zs ≡ length ys → Sq W (At zs none) (runs C Λ En pieces.t-10 (atRet En Post))
       surveys zs ez len =
-        assigns ! (addr ! (from ! (fld ! refl (hop ! (look-in ! 26 (sub ! 0 refl (whole !))) (stop !))))) (from ! (stop !)) (init ! 6 refl (tt, tt)) $
-        assigns ! (agg ! (and-then ! (load ! (from ! (stop !)) (look ! 6 refl)) (and-then ! (load ! (from ! (fld ! refl (stop !))) (look-in ! 26 (sub ! 1 refl (whole !)))) (no-more !)))) (from ! (stop !)) (init ! 4 refl (tt, (tt, (record { fits = room .0 }, tt)))) $
-        table-shown ! tt zs len room (λ ν δ. use2 W (raw (SurveyAll 𝓤 H A mem run .pre (to-survey ν δ zs))) (goes-survey ν δ zs len) $
-        -- [what `survey` asks; what the table's holder keeps; the file's token; what the file owns; _13; …]
-        calls-at ! fm (SurveyAll 𝓤 H A mem run) known-survey (to-survey ν δ zs) (and-then ! (load ! (from ! (stop !)) (look ! 4 refl)) (and-then ! (load ! (from ! (stop !)) (look ! 22 refl)) (no-more !))) (λ w.
-        answered ! tt survey.ended (ν ∷ [], tt) (x δ zs, (p .n, tt)) S (‵ (flft (ν ∷ []) fullShare) ⊛ ‵ ftrue) w (λ (v : Survey). v ≡ surveyOf (p .n) zs) (λ v ev is.
-        -- [what the survey owns; the call's token, and true; what the table's holder keeps; the file's token; what the file owns; _13; …]
-        land ! (from ! (stop !)) (init ! 21 refl (survey-lawful 𝓤 H A W .typed v _ is .0)) $ rewrite ! 21 (λ (u : Val). ‵ (fat fullShare surveyTy l₅ 0 u)) (ap only (survey-tells v _ is)) refl $
-        drop ! $ split ! $ move ! (0 ∷ 2 ∷ []) $ table-seen ! tt zs len room $ move ! (2 ∷ []) $ drop ! $ forget ! 4 refl $ forget ! 6 refl $
-        answers zs v (told U.the-type U′.the-laws v w is) ez len ev)))
+          assigns ! (addr ! (from ! (fld ! refl (hop ! (look-in ! 26 (sub ! 0 refl (whole !))) (stop !))))) (from ! (stop !)) (init ! 6 refl (tt, tt)) $
+          assigns ! (agg ! (and-then ! (load ! (from ! (stop !)) (look ! 6 refl)) (and-then ! (load ! (from ! (fld ! refl (stop !))) (look-in ! 26 (sub ! 1 refl (whole !)))) (no-more !)))) (from ! (stop !)) (init ! 4 refl (tt, (tt, (record { fits = room .0 }, tt)))) $
+          table-shown ! tt zs len room (λ ν δ. use2 W (raw (SurveyAll 𝓤 H A mem run .pre (to-survey ν δ zs))) (goes-survey ν δ zs len) $
+          -- [what `survey` asks; what the table's holder keeps; the file's token; what the file owns; _13; …]
+          calls-at ! fm (SurveyAll 𝓤 H A mem run) known-survey (to-survey ν δ zs) (and-then ! (load ! (from ! (stop !)) (look ! 4 refl)) (and-then ! (load ! (from ! (stop !)) (look ! 22 refl)) (no-more !))) (λ w.
+          answered ! tt survey.ended (ν ∷ [], tt) (x δ zs, (p .n, tt)) S (‵ (flft (ν ∷ []) fullShare) ⊛ ‵ ftrue) w (λ (v : Survey). v ≡ surveyOf (p .n) zs) (λ v ev is.
+          -- [what the survey owns; the call's token, and true; what the table's holder keeps; the file's token; what the file owns; _13; …]
+          land ! (from ! (stop !)) (init ! 21 refl (survey-lawful 𝓤 H A W .typed v _ is .0)) $ rewrite ! 21 (λ (u : Val). ‵ (fat fullShare surveyTy l₅ 0 u)) (ap only (survey-tells v _ is)) refl $
+          drop ! $ split ! $ move ! (0 ∷ 2 ∷ []) $ table-seen ! tt zs len room $ move ! (2 ∷ []) $ drop ! $ forget ! 4 refl $ forget ! 6 refl $
+          answers zs v (told U.the-type U′.the-laws v w is) ez len ev)))
 
       -- from the call of `run_rounds` on
       rounds : (zs : List Head) → zs ≡ startsIn (fx .now) (p .n) ys → length zs ≡ length ys → Sq W (At zs none) (runs C Λ En pieces.t-7 (atRet En Post))
       rounds zs ez len =
-        assigns ! (addr ! (from ! (fld ! refl (hop ! (look-in ! 26 (sub ! 0 refl (whole !))) (stop !))))) (from ! (stop !)) (init ! 10 refl (tt, tt)) $
-        assigns ! (agg ! (and-then ! (load ! (from ! (stop !)) (look ! 10 refl)) (and-then ! (load ! (from ! (fld ! refl (stop !))) (look-in ! 26 (sub ! 1 refl (whole !)))) (no-more !)))) (from ! (stop !)) (init ! 8 refl (tt, (tt, (record { fits = room .0 }, tt)))) $
-        lft-new ! tt (λ ν. move ! (1 ∷ 2 ∷ []) $ table-lent ! tt zs len ν (λ δ.
-        -- [the table as it is lent; what its holder keeps; the call's token; the file's; what the file owns; _13; …]
-        move ! (4 ∷ []) $ bytes-copied ! fx $ nothing ! $ move ! (6 ∷ 0 ∷ []) $ join ! $ move ! (5 ∷ 0 ∷ []) $ join ! $ move ! (0 ∷ 3 ∷ 1 ∷ []) $ use3 W (raw (RunRounds 𝓤 H A mem run .pre (to-rounds ν δ zs))) (goes-rounds ν δ zs len) $
-        -- [what the callee asks; what the file owns; what the table's holder keeps; _13; …]
-        calls-at ! fm (RunRounds 𝓤 H A mem run) known-rounds (to-rounds ν δ zs) (and-then ! (load ! (from ! (stop !)) (look ! 7 refl)) (and-then ! (load ! (from ! (stop !)) (look ! 27 refl)) (and-then ! (load ! (from ! (stop !)) (look ! 23 refl)) (no-more !)))) (λ u.
-        table-left ! tt run-rounds.ended (ν ∷ [], (κ′, tt)) (x δ zs, (fx, (p, tt))) unit (‵ (flft (ν ∷ []) fullShare) ⊛ ‵ (flft κ′ q′) ⊛ ‵ ftrue) u δ zs (λ ws. ws .0)
-        (λ r last. last ≡ roundsIn (fx .now) p (p .rounds) zs) (λ Γ′ ws. of-first !) (λ r last e same is.
-        -- [nothing; the two tokens, and true; what says the last list; what the file owns; what the table's holder keeps; _13; …]
-        land ! (from ! (stop !)) (init ! 17 refl (nothing-lawful 𝓤 H A W .typed r _ is .0)) $ drop ! $ split ! $ lft-end ! tt $ move ! (0 ∷ 4 ∷ 2 ∷ []) $ table-back ! tt zs len room last same $
-        -- [the table; its token; the file's token, and true; what the file owns; _13; …]
-        move ! (2 ∷ []) $ split ! $ move ! (1 ∷ []) $ drop ! $ move ! (1 ∷ 2 ∷ 0 ∷ []) $ forget ! 16 refl $ forget ! 10 refl $ forget ! 8 refl $
-        surveys last (table-is (fx .now) ys zs last p planned ez e) (same ∙ len)))))
+          assigns ! (addr ! (from ! (fld ! refl (hop ! (look-in ! 26 (sub ! 0 refl (whole !))) (stop !))))) (from ! (stop !)) (init ! 10 refl (tt, tt)) $
+          assigns ! (agg ! (and-then ! (load ! (from ! (stop !)) (look ! 10 refl)) (and-then ! (load ! (from ! (fld ! refl (stop !))) (look-in ! 26 (sub ! 1 refl (whole !)))) (no-more !)))) (from ! (stop !)) (init ! 8 refl (tt, (tt, (record { fits = room .0 }, tt)))) $
+          lft-new ! tt (λ ν. move ! (1 ∷ 2 ∷ []) $ table-lent ! tt zs len ν (λ δ.
+          -- [the table as it is lent; what its holder keeps; the call's token; the file's; what the file owns; _13; …]
+          move ! (4 ∷ []) $ bytes-copied ! fx $ nothing ! $ move ! (6 ∷ 0 ∷ []) $ join ! $ move ! (5 ∷ 0 ∷ []) $ join ! $ move ! (0 ∷ 3 ∷ 1 ∷ []) $ use3 W (raw (RunRounds 𝓤 H A mem run .pre (to-rounds ν δ zs))) (goes-rounds ν δ zs len) $
+          -- [what the callee asks; what the file owns; what the table's holder keeps; _13; …]
+          calls-at ! fm (RunRounds 𝓤 H A mem run) known-rounds (to-rounds ν δ zs) (and-then ! (load ! (from ! (stop !)) (look ! 7 refl)) (and-then ! (load ! (from ! (stop !)) (look ! 27 refl)) (and-then ! (load ! (from ! (stop !)) (look ! 23 refl)) (no-more !)))) (λ u.
+          table-left ! tt run-rounds.ended (ν ∷ [], (κ′, tt)) (x δ zs, (fx, (p, tt))) unit (‵ (flft (ν ∷ []) fullShare) ⊛ ‵ (flft κ′ q′) ⊛ ‵ ftrue) u δ zs (λ ws. ws .0)
+          (λ r last. last ≡ roundsIn (fx .now) p (p .rounds) zs) (λ Γ′ ws. of-first !) (λ r last e same is.
+          -- [nothing; the two tokens, and true; what says the last list; what the file owns; what the table's holder keeps; _13; …]
+          land ! (from ! (stop !)) (init ! 17 refl (nothing-lawful 𝓤 H A W .typed r _ is .0)) $ drop ! $ split ! $ lft-end ! tt $ move ! (0 ∷ 4 ∷ 2 ∷ []) $ table-back ! tt zs len room last same $
+          -- [the table; its token; the file's token, and true; what the file owns; _13; …]
+          move ! (2 ∷ []) $ split ! $ move ! (1 ∷ []) $ drop ! $ move ! (1 ∷ 2 ∷ 0 ∷ []) $ forget ! 16 refl $ forget ! 10 refl $ forget ! 8 refl $
+          surveys last (table-is (fx .now) ys zs last p planned ez e) (same ∙ len)))))
 
       -- from the call of `start_all` on
       starts : Sq W (At ys none) (runs C Λ En pieces.t-4 (atRet En Post))
       starts =
-        assigns ! (addr ! (from ! (fld ! refl (hop ! (look-in ! 26 (sub ! 0 refl (whole !))) (stop !))))) (from ! (stop !)) (init ! 14 refl (tt, tt)) $
-        assigns ! (agg ! (and-then ! (load ! (from ! (stop !)) (look ! 14 refl)) (and-then ! (load ! (from ! (fld ! refl (stop !))) (look-in ! 26 (sub ! 1 refl (whole !)))) (no-more !)))) (from ! (stop !)) (init ! 12 refl (tt, (tt, (record { fits = room .0 }, tt)))) $
-        lft-new ! tt (λ ν. move ! (1 ∷ 2 ∷ []) $ table-lent ! tt ys refl ν (λ δ.
-        -- [the table as it is lent; what its holder keeps; the call's token; the file's; what the file owns; _13; …]
-        move ! (4 ∷ []) $ bytes-copied ! fx $ nothing ! $ move ! (6 ∷ 0 ∷ []) $ join ! $ move ! (5 ∷ 0 ∷ []) $ join ! $ move ! (0 ∷ 3 ∷ 1 ∷ []) $ use3 W (raw (StartAll 𝓤 H A mem run .pre (to-start ν δ))) (goes-start ν δ) $
-        -- [what the callee asks; what the file owns; what the table's holder keeps; _13; …]
-        calls-at ! fm (StartAll 𝓤 H A mem run) known-start (to-start ν δ) (and-then ! (load ! (from ! (stop !)) (look ! 11 refl)) (and-then ! (load ! (from ! (stop !)) (look ! 27 refl)) (and-then ! (load ! (from ! (stop !)) (look ! 21 refl)) (no-more !)))) (λ u.
-        table-left ! tt start-all.ended (ν ∷ [], (κ′, tt)) (x δ ys, (fx, (p .n, tt))) unit (‵ (flft (ν ∷ []) fullShare) ⊛ ‵ (flft κ′ q′) ⊛ ‵ ftrue) u δ ys (λ ws. ws .0)
-        (λ r last. last ≡ startsIn (fx .now) (p .n) ys) (λ Γ′ ws. of-first !) (λ r last e same is.
-        -- [nothing; the two tokens, and true; what says the last list; what the file owns; what the table's holder keeps; _13; …]
-        land ! (from ! (stop !)) (init ! 17 refl (nothing-lawful 𝓤 H A W .typed r _ is .0)) $ drop ! $ split ! $ lft-end ! tt $ move ! (0 ∷ 4 ∷ 2 ∷ []) $ table-back ! tt ys refl room last same $
-        -- [the table; its token; the file's token, and true; what the file owns; _13; …]
-        move ! (2 ∷ []) $ split ! $ move ! (1 ∷ []) $ drop ! $ move ! (1 ∷ 2 ∷ 0 ∷ []) $ forget ! 16 refl $ forget ! 14 refl $ forget ! 12 refl $
-        rounds last e same))))
+          assigns ! (addr ! (from ! (fld ! refl (hop ! (look-in ! 26 (sub ! 0 refl (whole !))) (stop !))))) (from ! (stop !)) (init ! 14 refl (tt, tt)) $
+          assigns ! (agg ! (and-then ! (load ! (from ! (stop !)) (look ! 14 refl)) (and-then ! (load ! (from ! (fld ! refl (stop !))) (look-in ! 26 (sub ! 1 refl (whole !)))) (no-more !)))) (from ! (stop !)) (init ! 12 refl (tt, (tt, (record { fits = room .0 }, tt)))) $
+          lft-new ! tt (λ ν. move ! (1 ∷ 2 ∷ []) $ table-lent ! tt ys refl ν (λ δ.
+          -- [the table as it is lent; what its holder keeps; the call's token; the file's; what the file owns; _13; …]
+          move ! (4 ∷ []) $ bytes-copied ! fx $ nothing ! $ move ! (6 ∷ 0 ∷ []) $ join ! $ move ! (5 ∷ 0 ∷ []) $ join ! $ move ! (0 ∷ 3 ∷ 1 ∷ []) $ use3 W (raw (StartAll 𝓤 H A mem run .pre (to-start ν δ))) (goes-start ν δ) $
+          -- [what the callee asks; what the file owns; what the table's holder keeps; _13; …]
+          calls-at ! fm (StartAll 𝓤 H A mem run) known-start (to-start ν δ) (and-then ! (load ! (from ! (stop !)) (look ! 11 refl)) (and-then ! (load ! (from ! (stop !)) (look ! 27 refl)) (and-then ! (load ! (from ! (stop !)) (look ! 21 refl)) (no-more !)))) (λ u.
+          table-left ! tt start-all.ended (ν ∷ [], (κ′, tt)) (x δ ys, (fx, (p .n, tt))) unit (‵ (flft (ν ∷ []) fullShare) ⊛ ‵ (flft κ′ q′) ⊛ ‵ ftrue) u δ ys (λ ws. ws .0)
+          (λ r last. last ≡ startsIn (fx .now) (p .n) ys) (λ Γ′ ws. of-first !) (λ r last e same is.
+          -- [nothing; the two tokens, and true; what says the last list; what the file owns; what the table's holder keeps; _13; …]
+          land ! (from ! (stop !)) (init ! 17 refl (nothing-lawful 𝓤 H A W .typed r _ is .0)) $ drop ! $ split ! $ lft-end ! tt $ move ! (0 ∷ 4 ∷ 2 ∷ []) $ table-back ! tt ys refl room last same $
+          -- [the table; its token; the file's token, and true; what the file owns; _13; …]
+          move ! (2 ∷ []) $ split ! $ move ! (1 ∷ []) $ drop ! $ move ! (1 ∷ 2 ∷ 0 ∷ []) $ forget ! 16 refl $ forget ! 14 refl $ forget ! 12 refl $
+          rounds last e same))))
 
   module _ (𝓣 : Tables 𝓤 H) (known-plan : Triple 𝓤 (𝓣 .C #run·plans·plan-of) (PlanOf 𝓤 H A mem run)) (known-start : Triple 𝓤 (𝓣 .C #run·table·start-all) (StartAll 𝓤 H A mem run)) (known-rounds : Triple 𝓤 (𝓣 .C #run·table·run-rounds) (RunRounds 𝓤 H A mem run)) (known-survey : Triple 𝓤 (𝓣 .C #run·table·survey) (SurveyAll 𝓤 H A mem run)) (known-outcome : Triple 𝓤 (𝓣 .C #run·figures·outcome) (OutcomeAt 𝓤 H A mem run)) where
     walk : ent 𝓤 (onEntry 𝓤 H A bench.signature (κ′, (κ, tt)) (q′, (q, tt)) a vals) (WpFn 𝓤 H (𝓣 .C) (𝓣 .Λ) code.function (bytesVal fx ∷ s ∷ []) Post)

@@ -1,0 +1,20 @@
+-- What the functions of `run` that write the report hand to one another.
+use Prim.Native.Nat.{ℕ, _+_, _-_, min}
+use mathlib.Core.List.{List, [], _∷_}
+use lib.ListN.{length}
+use lib.Seq.{paste}
+use Rattle.file.specs.declared.Text.{Text}
+
+-- how many bytes of a word a text still has room for
+abbrev pub fitting : Text → List ℕ → ℕ
+fitting text word = min (length word) (4096 - text .length)
+
+-- a text with a word at its end
+unfoldable pub withWord : Text → List ℕ → Text
+withWord text word =
+    record { bytes = paste (text .bytes) (text .length) word (fitting text word); length = text .length + fitting text word }
+
+-- with words one after the other
+unfoldable pub withAll : Text → List (List ℕ) → Text
+withAll text [] = text
+withAll text (word ∷ words) = withAll (withWord text word) words

@@ -1,0 +1,125 @@
+// The report's text: every byte that the program prints.
+ghost use mathlib.Core.Path.{_≡_};
+ghost use Prim.Native.Nat.{_≤_};
+ghost use lib.ListN.{length};
+ghost use Rattle.file.specs.Report.{decimal, valueWord, statusWord, decisionWord, firstLine, headLine, headLines, lastLine, refusalLine, reportOf, textOf};
+ghost use Rattle.run.specs.Writing.{withWord, withAll};
+use crate::table::run_file;
+use crate::text::empty;
+use crate::text::with_number;
+use crate::text::with_word;
+use file::Outcome;
+use file::Text;
+use rules::Decision;
+use rules::Head;
+use rules::Status;
+use rules::Value;
+
+// What the program prints for a run file.
+pub fn report(file: &[u8]) -> Text
+    ensures { λ r. ⌜ r ≡ textOf (reportOf (now (file .entry))) ⌝ }
+{
+    let done = run_file(file);
+    let outcome = done.outcome;
+    let text = empty();
+    if outcome.number != 0 {
+        return refusal_line(text, outcome);
+    }
+    let heads = done.heads;
+    last_line(
+        head_lines(first_line(text, outcome), heads, outcome.n),
+        outcome,
+    )
+}
+
+fn refusal_line(text: Text, outcome: Outcome) -> Text
+    ensures { λ r. ⌜ r ≡ withAll text (refusalLine outcome) ⌝ }
+{
+    let a = with_word(text, b"refused ");
+    let b = with_number(a, outcome.number as usize);
+    let c = with_word(b, b" at ");
+    let d = with_number(c, outcome.place);
+    with_word(d, b"\n")
+}
+
+fn first_line(text: Text, outcome: Outcome) -> Text
+    ensures { λ r. ⌜ r ≡ withAll text (firstLine outcome) ⌝ }
+{
+    let a = with_word(text, b"heads ");
+    let b = with_number(a, outcome.n);
+    let c = with_word(b, b" need ");
+    let d = with_number(c, outcome.needed);
+    let e = with_word(d, b" bound ");
+    let f = with_number(e, outcome.bound);
+    with_word(f, b"\n")
+}
+
+fn last_line(text: Text, outcome: Outcome) -> Text
+    ensures { λ r. ⌜ r ≡ withAll text (lastLine outcome) ⌝ }
+{
+    let a = with_word(text, b"rounds ");
+    let b = with_number(a, outcome.rounds);
+    let c = with_word(b, b" good ");
+    let d = with_number(c, outcome.good);
+    let e = with_word(d, b" decided ");
+    let f = with_number(e, outcome.decided);
+    with_word(f, b"\n")
+}
+
+// One line for each of the first n heads.
+fn head_lines(text: Text, heads: [Head; 32], n: usize) -> Text
+    requires { ⌜ n ≤ 32 ⌝ }
+    ensures { λ r. ⌜ r ≡ withAll text (headLines n heads) ⌝ }
+{
+    let mut lines = text;
+    let mut s = 0;
+    while s < n {
+        let h = heads[s];
+        lines = head_line(lines, s, h);
+        s = s + 1;
+    }
+    lines
+}
+
+fn head_line(text: Text, s: usize, head: Head) -> Text
+    ensures { λ r. ⌜ r ≡ withAll text (headLine s head) ⌝ }
+{
+    let value = head.value;
+    let status = head.status;
+    let decision = head.decision;
+    let a = with_number(with_word(text, b"head "), s);
+    let b = with_number(with_word(a, b" phase "), head.phase as usize);
+    let c = with_value(with_word(b, b" value "), value);
+    let d = with_status(with_word(c, b" status "), status);
+    let e = with_decision(with_word(d, b" decision "), decision);
+    with_word(e, b"\n")
+}
+
+fn with_value(text: Text, value: Value) -> Text
+    ensures { λ r. ⌜ r ≡ withWord text (valueWord value) ⌝ }
+{
+    match value {
+        Value::Zero => with_word(text, b"0"),
+        Value::One => with_word(text, b"1"),
+        Value::Blank => with_word(text, b"blank"),
+    }
+}
+
+fn with_status(text: Text, status: Status) -> Text
+    ensures { λ r. ⌜ r ≡ withWord text (statusWord status) ⌝ }
+{
+    match status {
+        Status::Undecided => with_word(text, b"undecided"),
+        Status::Decided => with_word(text, b"decided"),
+    }
+}
+
+fn with_decision(text: Text, decision: Decision) -> Text
+    ensures { λ r. ⌜ r ≡ withWord text (decisionWord decision) ⌝ }
+{
+    match decision {
+        Decision::Zero => with_word(text, b"0"),
+        Decision::One => with_word(text, b"1"),
+        Decision::Unwritten => with_word(text, b"none"),
+    }
+}
