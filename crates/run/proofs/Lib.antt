@@ -4,5 +4,7 @@ pub mod Checking
 pub mod Parts
 pub mod Planned
 pub mod Planning
+pub mod Reports
 pub mod Surveyed
+pub mod Texts
 pub mod Walking

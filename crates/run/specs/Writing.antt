@@ -1,9 +1,17 @@
 -- What the functions of `run` that write the report hand to one another.
-use Prim.Native.Nat.{ℕ, _+_, _-_, min}
+use Prim.Native.Nat.{ℕ, _+_, _-_, _≤_, min}
+use mathlib.Core.Path.{_≡_}
 use mathlib.Core.List.{List, [], _∷_}
-use lib.ListN.{length}
+use lib.ListN.{length, replicate}
 use lib.Seq.{paste}
 use Rattle.file.specs.declared.Text.{Text}
+
+-- a text that holds no more than its 4,096 bytes
+abbrev pub Held : Text → Type 0
+Held text = (length (text .bytes) ≡ 4096) × (text .length ≤ 4096)
+
+abbrev pub noText : Text
+noText = record { bytes = replicate 4096 0; length = 0 }
 
 -- how many bytes of a word a text still has room for
 abbrev pub fitting : Text → List ℕ → ℕ

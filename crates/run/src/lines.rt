@@ -3,7 +3,7 @@ ghost use mathlib.Core.Path.{_≡_};
 ghost use Prim.Native.Nat.{_≤_};
 ghost use lib.ListN.{length};
 ghost use Rattle.file.specs.Report.{decimal, valueWord, statusWord, decisionWord, firstLine, headLine, headLines, lastLine, refusalLine, reportOf, textOf};
-ghost use Rattle.run.specs.Writing.{withWord, withAll};
+ghost use Rattle.run.specs.Writing.{Held, withWord, withAll};
 use crate::table::run_file;
 use crate::text::empty;
 use crate::text::with_number;
@@ -33,7 +33,9 @@ pub fn report(file: &[u8]) -> Text
 }
 
 fn refusal_line(text: Text, outcome: Outcome) -> Text
+    requires { ⌜ Held text ⌝ }
     ensures { λ r. ⌜ r ≡ withAll text (refusalLine outcome) ⌝ }
+    ensures { λ r. ⌜ Held r ⌝ }
 {
     let a = with_word(text, b"refused ");
     let b = with_number(a, outcome.number as usize);
@@ -43,7 +45,9 @@ fn refusal_line(text: Text, outcome: Outcome) -> Text
 }
 
 fn first_line(text: Text, outcome: Outcome) -> Text
+    requires { ⌜ Held text ⌝ }
     ensures { λ r. ⌜ r ≡ withAll text (firstLine outcome) ⌝ }
+    ensures { λ r. ⌜ Held r ⌝ }
 {
     let a = with_word(text, b"heads ");
     let b = with_number(a, outcome.n);
@@ -55,7 +59,9 @@ fn first_line(text: Text, outcome: Outcome) -> Text
 }
 
 fn last_line(text: Text, outcome: Outcome) -> Text
+    requires { ⌜ Held text ⌝ }
     ensures { λ r. ⌜ r ≡ withAll text (lastLine outcome) ⌝ }
+    ensures { λ r. ⌜ Held r ⌝ }
 {
     let a = with_word(text, b"rounds ");
     let b = with_number(a, outcome.rounds);
@@ -68,8 +74,9 @@ fn last_line(text: Text, outcome: Outcome) -> Text
 
 // One line for each of the first n heads.
 fn head_lines(text: Text, heads: [Head; 32], n: usize) -> Text
-    requires { ⌜ n ≤ 32 ⌝ }
+    requires { ⌜ (n ≤ 32) × Held text ⌝ }
     ensures { λ r. ⌜ r ≡ withAll text (headLines n heads) ⌝ }
+    ensures { λ r. ⌜ Held r ⌝ }
 {
     let mut lines = text;
     let mut s = 0;
@@ -82,7 +89,9 @@ fn head_lines(text: Text, heads: [Head; 32], n: usize) -> Text
 }
 
 fn head_line(text: Text, s: usize, head: Head) -> Text
+    requires { ⌜ Held text ⌝ }
     ensures { λ r. ⌜ r ≡ withAll text (headLine s head) ⌝ }
+    ensures { λ r. ⌜ Held r ⌝ }
 {
     let value = head.value;
     let status = head.status;
@@ -96,7 +105,9 @@ fn head_line(text: Text, s: usize, head: Head) -> Text
 }
 
 fn with_value(text: Text, value: Value) -> Text
+    requires { ⌜ Held text ⌝ }
     ensures { λ r. ⌜ r ≡ withWord text (valueWord value) ⌝ }
+    ensures { λ r. ⌜ Held r ⌝ }
 {
     match value {
         Value::Zero => with_word(text, b"0"),
@@ -106,7 +117,9 @@ fn with_value(text: Text, value: Value) -> Text
 }
 
 fn with_status(text: Text, status: Status) -> Text
+    requires { ⌜ Held text ⌝ }
     ensures { λ r. ⌜ r ≡ withWord text (statusWord status) ⌝ }
+    ensures { λ r. ⌜ Held r ⌝ }
 {
     match status {
         Status::Undecided => with_word(text, b"undecided"),
@@ -115,7 +128,9 @@ fn with_status(text: Text, status: Status) -> Text
 }
 
 fn with_decision(text: Text, decision: Decision) -> Text
+    requires { ⌜ Held text ⌝ }
     ensures { λ r. ⌜ r ≡ withWord text (decisionWord decision) ⌝ }
+    ensures { λ r. ⌜ Held r ⌝ }
 {
     match decision {
         Decision::Zero => with_word(text, b"0"),
