@@ -1,2 +1,5 @@
+pub mod BenchIsRun
 pub mod Decimals
+pub mod Placing
+pub mod Plans
 pub mod Sections

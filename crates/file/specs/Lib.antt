@@ -4,3 +4,4 @@ pub mod Table
 pub mod Figures
 pub mod Benched
 pub mod Report
+pub mod Vote

@@ -1,0 +1,61 @@
+-- A bench run is a run of demand 3: the heads in the table are the heads of the vote after the ticks of the rounds.
+use Prim.Native.Nat.{ℕ, zero, suc, _+_, _*_, _≤_, _<_}
+use mathlib.Core.Path.{_≡_, refl, sym, ap, ap₂, _∙_}
+use mathlib.Core.List.{List, [], _++_}
+use mathlib.Core.Bool.{cond}
+use native.Mathlib.Nat.{mul-le-mul-right, suc-mul}
+use native.Mathlib.Omega.{arith}
+use lib.ListN.{length, getD, drop}
+use lib.Seq.{getD-take, getD-drop}
+use Rattle.rules.specs.declared.Head.{Head}
+use Rattle.rules.specs.Ballot.{bytesOf}
+use Rattle.rules.specs.Heard.{member}
+use Rattle.rules.specs.Head.{ballotOf}
+use Rattle.rules.specs.Tick.{tickOf}
+use Rattle.rules.specs.Record.{wordAt}
+use Rattle.rules.specs.Run.{Event, headIn, Run}
+use Rattle.rules.specs.Round.{received}
+use Rattle.rules.proofs.Rounds.{round-is-run, ticked-once}
+use Rattle.file.specs.declared.Plan.{Plan}
+use Rattle.file.specs.Plan.{planOf}
+use Rattle.file.specs.Table.{headOf, placed, startIn, startsIn, rowsIn, coinsIn, receivedIn, tickedIn, roundIn, roundsIn, tableAfter}
+use Rattle.file.specs.Vote.{voteIn, channelIn, eventsIn}
+use Rattle.file.proofs.Placing.{placed-length, placed-at, rounds-length}
+use Rattle.file.proofs.Plans.{AcceptedFile}
+
+module _ (file : List ℕ) (plan : Plan) (table : List Head) (accepted : AcceptedFile file (length table) plan) where
+  abbrev starts : List Head
+  starts = startsIn file (plan .n) table
+
+  -- what is received from the table is what is received from the vote's heads
+  received-same : (r : ℕ) → ((s : ℕ) → s < plan .n → headOf (roundsIn file plan r starts) s ≡ headIn (voteIn file plan) (eventsIn file plan r) s)
+      → (receiver k : ℕ) → k ≤ plan .n
+      → receivedIn (roundsIn file plan r starts) (wordAt (rowsIn file plan r) (receiver * 4)) k ≡ received (voteIn file plan) (eventsIn file plan r) (channelIn file plan r) receiver k
+  received-same r same receiver zero h = refl
+  received-same r same receiver (suc k) h =
+      ap₂ (λ (list : List ℕ) (head : Head). list ++ cond (member k (wordAt (rowsIn file plan r) (receiver * 4))) [] (bytesOf (ballotOf head)))
+      (received-same r same receiver k (omega arith)) (same k h)
+
+  -- "A round": each head of the table is ticked as the vote's is
+  pub heads-are : (r : ℕ) (s : ℕ) → s < plan .n → headOf (roundsIn file plan r starts) s ≡ headIn (voteIn file plan) (eventsIn file plan r) s
+  unfolding roundsIn roundIn
+  heads-are zero s h = placed-at (plan .n) (startIn file (plan .n)) table s h (accepted .enough)
+  heads-are (suc r) s h =
+      placed-at (plan .n) (tickedIn (plan .n) (rowsIn file plan r) (coinsIn file plan r) (roundsIn file plan r starts)) (roundsIn file plan r starts) s h room
+      ∙ ap₂ (λ (head : Head) (list : List ℕ). tickOf head list (getD (coinsIn file plan r) s 0) .head) (heads-are r s h) (received-same r (heads-are r) s (plan .n) (omega arith))
+      ∙ sym (ticked-once (voteIn file plan) (eventsIn file plan r) (channelIn file plan r) (plan .n) s h)
+    where
+      room : plan .n ≤ length (roundsIn file plan r starts)
+      room = omega (arith, accepted .enough, rounds-length file plan r starts, placed-length (plan .n) (startIn file (plan .n)) table)
+
+  -- a coin of a round is a coin of the file
+  coin-bit : (r : ℕ) → r < plan .rounds → (s : ℕ) → s < plan .n → getD (coinsIn file plan r) s 0 < 2
+  coin-bit r early s h =
+      let at : getD (coinsIn file plan r) s 0 ≡ getD file (plan .coins + r * plan .n + s) 0 = getD-take (plan .n) (drop (plan .coins + r * plan .n) file) s 0 h ∙ getD-drop (plan .coins + r * plan .n) file s 0 in
+      let place : plan .coins + r * plan .n + s ≡ plan .coins + (r * plan .n + s) = omega arith in
+      omega (arith, at, ap (λ (k : ℕ). getD file k 0) place, accepted .coin (r * plan .n + s) (omega (arith, h, mul-le-mul-right (plan .n) early, suc-mul r (plan .n))))
+
+  -- "Tick them in any order ..": the rounds are a run
+  pub rounds-are-run : (r : ℕ) → r ≤ plan .rounds → Run (voteIn file plan) (eventsIn file plan r)
+  rounds-are-run zero h = record { heads = accepted .heads; bits = accepted .proposal }
+  rounds-are-run (suc r) h = round-is-run (voteIn file plan) (eventsIn file plan r) (channelIn file plan r) (rounds-are-run r (omega arith)) (coin-bit r h)

@@ -1,0 +1,27 @@
+-- A run file as a vote of demand 3: n heads that start with its proposals, and its rounds as rounds of document 01.
+use Prim.Native.Nat.{ℕ, zero, suc, _+_, _*_}
+use mathlib.Core.List.{List, []}
+use lib.ListN.{getD}
+use Rattle.rules.specs.Heard.{member}
+use Rattle.rules.specs.Record.{wordAt}
+use Rattle.rules.specs.Run.{Vote, Event}
+use Rattle.rules.specs.Round.{Channel, round}
+use Rattle.file.specs.declared.Plan.{Plan}
+use Rattle.file.specs.Table.{rowsIn, coinsIn}
+
+-- "Count n .., then n proposals"
+abbrev pub voteIn : List ℕ → Plan → Vote
+voteIn file plan = record { n = plan .n; proposal = λ s. getD file (2 + s) 0 }
+
+-- round r: "Bit s set: the ballot of head s is lost to it."; "coins .. round by round, head by head"
+abbrev pub channelIn : List ℕ → Plan → ℕ → Channel
+channelIn file plan r =
+    record {
+      lost = λ receiver sender. member sender (wordAt (rowsIn file plan r) (receiver * 4));
+      coin = λ s. getD (coinsIn file plan r) s 0;
+    }
+
+-- the ticks of the first r rounds, the last first
+abbrev pub eventsIn : List ℕ → Plan → ℕ → List Event
+eventsIn file plan zero = []
+eventsIn file plan (suc r) = round (voteIn file plan) (eventsIn file plan r) (channelIn file plan r)
