@@ -5,7 +5,7 @@ use Prim.Native.Nat.{ℕ, _*_, _<_}
 use mathlib.Core.Path.{_≡_, refl, sym, ap, _∙_}
 use mathlib.Core.List.{List, [], _∷_, _++_}
 use mathlib.Core.Bool.{Bool, true, false, cond}
-use mathlib.Core.Logic.{_⊎_, _↔_}
+use mathlib.Core.Logic.{_↔_}
 use native.Mathlib.Omega.{arith}
 use lib.ListN.{length, replicate}
 use lib.Dec.{eqb}
@@ -13,17 +13,16 @@ use borrow.Author.Tests.{ne-eqb}
 use Rattle.rules.specs.declared.Value.{Value}
 use Rattle.rules.specs.declared.Value.the-variants.{Zero, One, Blank}
 use Rattle.rules.specs.declared.Status.the-variants.{Decided}
-use Rattle.rules.specs.declared.Decision.the-variants.{Unwritten}
 use Rattle.rules.specs.declared.Ballot.{Ballot}
 use Rattle.rules.specs.declared.Head.{Head}
 use Rattle.rules.specs.Below.{some, count}
 use Rattle.rules.specs.Ballot.{valueOf, sameValue, readNumber, readBallot}
 use Rattle.rules.specs.Head.{decisionFor, sound, startNumber, startOf, ballotOf, sendOf}
-use Rattle.rules.specs.Tick.{gathered, tickNumber, tickOf}
+use Rattle.rules.specs.Tick.{tickNumber, tickOf}
 use Rattle.rules.specs.Record.{headAt, startsNumber, startsRecord, ticksNumber, ticksRecord, sendsNumber, sendsBuffer}
-use Rattle.rules.specs.Given.{Given, startTable, readTable, tickTable, startsTable, ticksTable, sendsTable, Sound, Quorum}
+use Rattle.rules.specs.Given.{Given, startTable, readTable, tickTable, startsTable, ticksTable, sendsTable, Sound}
 use Rattle.rules.specs.History.{Handed, headAfter, AllAccepted, processAfter, Shows}
-use Rattle.rules.specs.Run.{Vote, Proper, Event, headIn, Sent, Run}
+use Rattle.rules.specs.Run.{Vote, Proper, Event, headIn, Sent, Run, Written, NoTwoDecisionsDiffer, EachWasProposed, AWrittenOneStays, NotRefusedBeforeTheLastPhase, EveryHeadDecides}
 use Rattle.rules.specs.Round.{Channel, round, lossless}
 use Rattle.rules.proofs.Truth.{false-not}
 use Rattle.rules.proofs.Below.{means-some, not-some}
@@ -39,9 +38,6 @@ use Rattle.rules.proofs.OneEvent.{Kept, event-number}
 use Rattle.rules.proofs.Runs.{kept-run}
 use Rattle.rules.proofs.Decisions.{tick-keeps-decision}
 use Rattle.rules.proofs.TheBit.{Bit, zero-bit, one-bit}
-
-abbrev Written : Head → Type 0
-Written h = h .decision ≡ Unwritten → ⊥
 
 -- ---- Demand 1
 
@@ -113,7 +109,7 @@ accepted-bytes-are-the-only-ones = one-ballot-one-writing
 -- ---- Demand 3
 
 -- "No two decisions differ"
-pub no-two-decisions-differ : (vote : Vote) (events : List Event) → Run vote events → (s t : ℕ) → s < vote .n → t < vote .n → Written (headIn vote events s) → Written (headIn vote events t) → headIn vote events s .decision ≡ headIn vote events t .decision
+pub no-two-decisions-differ : (vote : Vote) (events : List Event) → Run vote events → NoTwoDecisionsDiffer vote events
 no-two-decisions-differ vote events run s t hs ht ws wt =
     let K = kept-run vote events run in
     let x = K .decision s hs ws in
@@ -148,7 +144,7 @@ two-bits Blank One ba bv n = absurd (ba refl)
 two-bits Blank Blank ba bv n = absurd (ba refl)
 
 -- "each was proposed by some head"
-pub each-was-proposed : (vote : Vote) (events : List Event) → Run vote events → (s : ℕ) → s < vote .n → Written (headIn vote events s) → (t : ℕ) × (t < vote .n) × (headIn vote events s .decision ≡ decisionFor (valueOf (vote .proposal t)))
+pub each-was-proposed : (vote : Vote) (events : List Event) → Run vote events → EachWasProposed vote events
 each-was-proposed vote events run s hs ws = go (some (vote .n) test) refl
   where
     K : Kept vote events
@@ -175,7 +171,7 @@ each-was-proposed vote events run s hs ws = go (some (vote .n) test) refl
             (λ z. false-not (means-value (valueOf (vote .proposal (r .0))) v) (not-some (vote .n) test e (r .0) (r .1)) (sym (r .2) ∙ z))
 
 -- "a written one stays"
-pub a-written-one-stays : (vote : Vote) (events later : List Event) → Run vote (later ++ events) → (s : ℕ) → s < vote .n → Written (headIn vote events s) → headIn vote (later ++ events) s .decision ≡ headIn vote events s .decision
+pub a-written-one-stays : (vote : Vote) (events later : List Event) → Run vote (later ++ events) → AWrittenOneStays vote events later
 a-written-one-stays vote events [] run s h w = refl
 a-written-one-stays vote events (e ∷ later) run s h w =
     let i = a-written-one-stays vote events later (run .0) s h w in
@@ -186,9 +182,7 @@ a-written-one-stays vote events (e ∷ later) run s h w =
     go false written = refl
 
 -- "no tick is refused unless its step needs phase 65,536"
-pub no-tick-is-refused-before-the-last-phase : (vote : Vote) (events : List Event) (e : Event) → Run vote (e ∷ events)
-    → (tickNumber (headIn vote events (e .head)) (e .bytes) (e .coin) ≡ 0)
-    ⊎ ((tickNumber (headIn vote events (e .head)) (e .bytes) (e .coin) ≡ 10) × Quorum (gathered (headIn vote events (e .head)) (e .bytes)) × (gathered (headIn vote events (e .head)) (e .bytes) .phase ≡ 65535))
+pub no-tick-is-refused-before-the-last-phase : (vote : Vote) (events : List Event) (e : Event) → Run vote (e ∷ events) → NotRefusedBeforeTheLastPhase vote events e
 no-tick-is-refused-before-the-last-phase vote events e run = event-number vote events e (kept-run vote events (run .0)) (run .1)
 
 -- every head of every world is sound
@@ -199,7 +193,7 @@ heads-stay-sound vote events run = kept-run vote events run .sound
 -- that bit in them."
 pub two-lossless-rounds-decide : (vote : Vote) → Proper vote → (bit : ℕ) → bit < 2 → vote .n < count (vote .n) (λ s. eqb (vote .proposal s) bit) * 2
     → (first second : ℕ → ℕ) → ((s : ℕ) → s < vote .n → first s < 2) → ((s : ℕ) → s < vote .n → second s < 2)
-    → (s : ℕ) → s < vote .n → headIn vote (round vote (round vote [] (lossless first)) (lossless second)) s .decision ≡ decisionFor (valueOf bit)
+    → EveryHeadDecides vote (round vote (round vote [] (lossless first)) (lossless second)) bit
 two-lossless-rounds-decide = two-rounds-decide
 
 -- document 01's rounds, whatever they lose, are such runs

@@ -7,7 +7,6 @@ pub mod Meanings
 pub mod Leader
 pub mod Answers
 pub mod Given
-pub mod Sixteen
 pub mod Accepted
 pub mod TheBit
 pub mod Ballots
@@ -17,10 +16,15 @@ pub mod Soundness
 pub mod FromC
 pub mod Decisions
 pub mod HeardSoFar
+pub mod Computing
+pub mod Sixteen
+pub mod AWorkedTick
+pub mod AWorkedRun
 pub mod BySender
 pub mod AsAlgorithm
 pub mod Encoding
 pub mod Rounds
+pub mod WorkedRunsAreRuns
 pub mod Starts
 pub mod HearingAll
 pub mod LosslessRound

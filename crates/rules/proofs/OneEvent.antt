@@ -1,7 +1,7 @@
 -- One allowed event of a run: what its tick finds, and that it is not refused unless its step needs phase 65,536.
 use Prim.Native.Nat.{ℕ, suc, _+_, _*_, _%_, _≤_, _<_}
 use mathlib.Core.Path.{_≡_, refl, sym, ap, subst, _∙_}
-use mathlib.Core.List.{List}
+use mathlib.Core.List.{List, [], _∷_}
 use mathlib.Core.Bool.{Bool, true, false, cond, _||_}
 use mathlib.Core.Logic.{_⊎_, inl, inr}
 use native.Mathlib.Decide.{decLt, ℕ-discrete}
@@ -21,8 +21,8 @@ use Rattle.rules.specs.Ballot.{valueCode, valueOf, ballotAt, breaksRule}
 use Rattle.rules.specs.Heard.{member, size, heard}
 use Rattle.rules.specs.Head.{decisionFor, anyHeard, ballotOf}
 use Rattle.rules.specs.Tick.{ballots, moved, added, gathered, quorum, majority, bitWith, stepValue, stepStatus, risen, stepped, tickNumber}
-use Rattle.rules.specs.Given.{Heads, Breaks, Hears, Sound, OwnFromAhead, Differ, HeldOtherwise, SomeBallot, TwoBallots, HeardAtAll, Quorum, DecidesOtherwise}
-use Rattle.rules.specs.Run.{Vote, Event, headIn, Sent, Allowed}
+use Rattle.rules.specs.Given.{_exactly-when_, Given, Heads, Breaks, Hears, Sound, OwnFromAhead, Differ, HeldOtherwise, SomeBallot, TwoBallots, HeardAtAll, Quorum, DecidesOtherwise}
+use Rattle.rules.specs.Run.{Vote, Event, headIn, Sent, Allowed, NotRefusedBeforeTheLastPhase}
 use Rattle.rules.proofs.Truth.{Means, means-self, means-or, means-lt, false-not}
 use Rattle.rules.proofs.Sets.{means-any}
 use Rattle.rules.proofs.Given.{means-breaks, tick-given}
@@ -281,7 +281,7 @@ module _ (vote : Vote) (events : List Event) (e : Event) (K : Kept vote events) 
       x .1 .2 (sym (r .4) ∙ K .ledger .one (r .0) b (r .1) (listed i h) (r .2) (r .3 ∙ sym (x .0)) .0)
 
   -- "no tick is refused unless its step needs phase 65,536"
-  pub event-number : (tickNumber before (e .bytes) (e .coin) ≡ 0) ⊎ ((tickNumber before (e .bytes) (e .coin) ≡ 10) × Quorum after12 × (after12 .phase ≡ 65535))
+  pub event-number : NotRefusedBeforeTheLastPhase vote events e
   event-number = go (decLt (after12 .n) ((size (after12 .zeros) + size (after12 .ones) + size (after12 .blanks)) * 2)) (decLt (after12 .phase) 65535)
     where
       list : ((length (e .bytes) % 5 ≡ 0 → ⊥) ⊎ (320 < length (e .bytes))) → ⊥
@@ -298,32 +298,25 @@ module _ (vote : Vote) (events : List Event) (e : Event) (K : Kept vote events) 
       both : (after12 .phase % 2 ≡ 0) × HeardAtAll after12 Zero × HeardAtAll after12 One → ⊥
       both x = unfold gathered added in let z = settle-heard (x .0) Zero One (x .1 .0) (x .2 .0) zero-bit one-bit (x .1 .1) (x .2 .1) in let q : _≡_ {A = ℕ} 0 1 = cc in omega arith
 
-      accepted : (Quorum after12 × (65536 ≤ after12 .phase + 1) → ⊥) → tickNumber before (e .bytes) (e .coin) ≡ 0
-      accepted n =
-          tick-given before (e .bytes) (e .coin) 0 .1
+      -- none of 3 to 9 applies: 10 or 11 does, or 0 is given
+      past-9 : (number : ℕ) → Given number ((10 exactly-when (Quorum after12 × (65536 ≤ after12 .phase + 1))) ∷ (11 exactly-when DecidesOtherwise (stepped after12 (e .coin))) ∷ []) → tickNumber before (e .bytes) (e .coin) ≡ number
+      past-9 number later =
+          tick-given before (e .bytes) (e .coin) number .1
           (inr (
             λ f. f (K .sound (e .head) (A .head)),
-            inr (
-              λ l. omega (arith, A .bit),
-              inr (list, inr (rules, inr (λ x. own-fits (x .0) (x .1) (x .2), inr (apart-values, inr (both, inr (n, inr (decides-alike, refl))))))),
-            ),
+            inr (λ l. omega (arith, A .bit), inr (list, inr (rules, inr (λ x. own-fits (x .0) (x .1) (x .2), inr (apart-values, inr (both, later)))))),
           ))
 
+      accepted : (Quorum after12 × (65536 ≤ after12 .phase + 1) → ⊥) → tickNumber before (e .bytes) (e .coin) ≡ 0
+      accepted n = past-9 0 (inr (n, inr (decides-alike, refl)))
+
       ended : Quorum after12 × (65536 ≤ after12 .phase + 1) → tickNumber before (e .bytes) (e .coin) ≡ 10
-      ended p =
-          tick-given before (e .bytes) (e .coin) 10 .1
-          (inr (
-            λ f. f (K .sound (e .head) (A .head)),
-            inr (
-              λ l. omega (arith, A .bit),
-              inr (list, inr (rules, inr (λ x. own-fits (x .0) (x .1) (x .2), inr (apart-values, inr (both, inl (p, refl)))))),
-            ),
-          ))
+      ended p = past-9 10 (inl (p, refl))
 
       last : after12 .phase ≤ 65535
       last = unfold gathered added in let r = moved-state in omega (arith, r .2, K .low (r .0) (r .1))
 
-      go : Dec (Quorum after12) → Dec (after12 .phase < 65535) → (tickNumber before (e .bytes) (e .coin) ≡ 0) ⊎ ((tickNumber before (e .bytes) (e .coin) ≡ 10) × Quorum after12 × (after12 .phase ≡ 65535))
+      go : Dec (Quorum after12) → Dec (after12 .phase < 65535) → NotRefusedBeforeTheLastPhase vote events e
       go (no q) d = inl (accepted (λ x. q (x .0)))
       go (yes q) (yes l) = inl (accepted (λ x. omega (arith, x .1)))
       go (yes q) (no l) = inr (ended (q, omega arith), q, omega (arith, last))

@@ -1,7 +1,7 @@
 -- Document 01, 'Sixteen ticks proved of the rules': one list, and one statement over it.
 use Prim.Native.Nat.{ℕ}
 use mathlib.Core.Path.{_≡_, refl}
-use mathlib.Core.List.{List, [], _∷_, _++_, map}
+use mathlib.Core.List.{List, [], _∷_, map}
 use Rattle.rules.specs.declared.Value.{Value}
 use Rattle.rules.specs.declared.Value.the-variants.{Zero, One, Blank}
 use Rattle.rules.specs.declared.Status.{Status}
@@ -11,20 +11,9 @@ use Rattle.rules.specs.declared.Decision.the-variants.{One as ForOne, Un
 use Rattle.rules.specs.declared.Ballot.{Ballot}
 use Rattle.rules.specs.declared.Head.{Head}
 use Rattle.rules.specs.declared.Ticked.{Ticked}
-use Rattle.rules.specs.Number.{firstThatApplies}
-use Rattle.rules.specs.Below.{first, count}
-use Rattle.rules.specs.Ballot.{valueOf, statusOf, bytesOf, ballotAt, classOf, allowed, obeys, breaksRule, notHeads}
-use Rattle.rules.specs.Heard.{setOf, size, apart, says}
-use Rattle.rules.specs.Head.{standsUnder, decisionFits, setsFit, phaseFits, sound, startNumber, startOf}
-use Rattle.rules.specs.Tick.{ahead, leader, moved, heardWith, added, gathered, quorum, majority, bitWith, stepValue, stepStatus, stepped, settled, notList, sameState, ownFromAhead, differ, heldOtherwise, contradicts, bothHeard, phasesEnd, decidesOtherwise, tickNumber, tickOf}
-
--- "Ballots as (sender, phase, value, u or d)"
-abbrev ballot : ℕ → ℕ → Value → Status → Ballot
-ballot sender phase value status = record { sender = sender; value = value; status = status; phase = phase }
-
-abbrev bytes : List Ballot → List ℕ
-bytes [] = []
-bytes (b ∷ bs) = bytesOf b ++ bytes bs
+use Rattle.rules.specs.Head.{startOf}
+use Rattle.rules.specs.Tick.{tickOf}
+use Rattle.rules.proofs.Computing.{ballot, bytes, computing}
 
 -- "own number 0, proposal 1 unless said; coin 0 unless said"
 abbrev start : ℕ → Ticked
@@ -100,5 +89,5 @@ sixteen =
     ∷ []
 
 pub sixteen-ticks : map (λ (c : Case). c .gives) sixteen ≡ map (λ (c : Case). c .after) sixteen
-unfolding sixteen tickOf tickNumber firstThatApplies startOf startNumber sound notHeads obeys allowed classOf decisionFits setsFit apart phaseFits standsUnder first count size setOf notList breaksRule ballotAt valueOf statusOf ownFromAhead sameState contradicts differ heldOtherwise ahead leader moved says heardWith added gathered quorum majority bitWith stepValue stepStatus stepped settled bothHeard phasesEnd decidesOtherwise
+unfolding sixteen computing
 sixteen-ticks = refl

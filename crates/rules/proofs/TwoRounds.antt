@@ -17,7 +17,7 @@ use Rattle.rules.specs.Ballot.{valueCode, valueOf, sameValue}
 use Rattle.rules.specs.Head.{decisionFor, anyHeard}
 use Rattle.rules.specs.Tick.{majority, stepValue, stepStatus, risen, settled}
 use Rattle.rules.specs.Given.{first, second}
-use Rattle.rules.specs.Run.{Vote, Proper, headIn}
+use Rattle.rules.specs.Run.{Vote, Proper, EveryHeadDecides}
 use Rattle.rules.specs.Round.{round, lossless}
 use Rattle.rules.proofs.Truth.{means-self, means-or, not-not}
 use Rattle.rules.proofs.Below.{count-same}
@@ -74,7 +74,7 @@ second-step n s v coin many few bit = rw (decided, taken)
 -- that bit in them."
 pub two-rounds-decide : (vote : Vote) → Proper vote → (bit : ℕ) → bit < 2 → vote .n < count (vote .n) (λ s. eqb (vote .proposal s) bit) * 2
     → (first second : ℕ → ℕ) → ((s : ℕ) → s < vote .n → first s < 2) → ((s : ℕ) → s < vote .n → second s < 2)
-    → (s : ℕ) → s < vote .n → headIn vote (round vote (round vote [] (lossless first)) (lossless second)) s .decision ≡ decisionFor (valueOf bit)
+    → EveryHeadDecides vote (round vote (round vote [] (lossless first)) (lossless second)) bit
 two-rounds-decide vote proper bit low most one two ones twos s h =
     ap (λ (k : Head). k .decision) (lossless-round after two twos s h .1) ∙ second-step (vote .n) s v (two s) (proper .heads .0) (proper .heads .1) bit-value
   where
