@@ -3,7 +3,8 @@ use Prim.Native.Nat.{ℕ, zero, suc, _+_, _*_, _≤_, _<_}
 use mathlib.Core.Path.{_≡_, refl, sym, ap, ap₂, _∙_}
 use mathlib.Core.List.{List, [], _++_}
 use mathlib.Core.Bool.{cond}
-use native.Mathlib.Nat.{mul-le-mul-right, suc-mul}
+use native.Mathlib.Decide.{ℕ-discrete}
+use native.Mathlib.Nat.{mul-le-mul, mul-le-mul-right, suc-mul}
 use native.Mathlib.Omega.{arith}
 use lib.ListN.{length, getD, drop}
 use lib.Seq.{getD-take, getD-drop}
@@ -11,11 +12,12 @@ use Rattle.rules.specs.declared.Head.{Head}
 use Rattle.rules.specs.Ballot.{bytesOf}
 use Rattle.rules.specs.Heard.{member}
 use Rattle.rules.specs.Head.{ballotOf}
-use Rattle.rules.specs.Tick.{tickOf}
+use Rattle.rules.specs.Tick.{tickNumber, tickOf}
 use Rattle.rules.specs.Record.{wordAt}
 use Rattle.rules.specs.Run.{Event, headIn, Run}
-use Rattle.rules.specs.Round.{received}
-use Rattle.rules.proofs.Rounds.{round-is-run, ticked-once}
+use Rattle.rules.specs.Round.{received, ticksOfRound}
+use Rattle.rules.proofs.Rounds.{round-is-run, untouched, ticked-once}
+use Rattle.rules.proofs.Phases.{no-early-refusal}
 use Rattle.file.specs.declared.Plan.{Plan}
 use Rattle.file.specs.Plan.{planOf}
 use Rattle.file.specs.Table.{headOf, placed, startIn, startsIn, rowsIn, coinsIn, receivedIn, tickedIn, roundIn, roundsIn, tableAfter}
@@ -59,3 +61,41 @@ module _ (file : List ℕ) (plan : Plan) (table : List Head) (accepted : Accepte
   pub rounds-are-run : (r : ℕ) → r ≤ plan .rounds → Run (voteIn file plan) (eventsIn file plan r)
   rounds-are-run zero h = record { heads = accepted .heads; bits = accepted .proposal }
   rounds-are-run (suc r) h = round-is-run (voteIn file plan) (eventsIn file plan r) (channelIn file plan r) (rounds-are-run r (omega arith)) (coin-bit r h)
+
+  -- ---- no tick of a bench run is refused
+
+  -- a round adds a tick a head
+  round-length : (r k : ℕ) → length (ticksOfRound (voteIn file plan) (eventsIn file plan r) (channelIn file plan r) k) ≡ k + length (eventsIn file plan r)
+  round-length r zero = omega arith
+  round-length r (suc k) = let i = round-length r k in omega (arith, i)
+
+  events-length : (r : ℕ) → length (eventsIn file plan r) ≡ r * plan .n
+  events-length zero = omega arith
+  events-length (suc r) = let i = events-length r in omega (arith, i, round-length r (plan .n), suc-mul r (plan .n))
+
+  -- every tick of a round comes in a run
+  up-to : (r k s : ℕ) → s < k → Run (voteIn file plan) (ticksOfRound (voteIn file plan) (eventsIn file plan r) (channelIn file plan r) k)
+      → Run (voteIn file plan) (ticksOfRound (voteIn file plan) (eventsIn file plan r) (channelIn file plan r) (suc s))
+  up-to r zero s h run = absurd (omega arith)
+  up-to r (suc k) s h run = go (ℕ-discrete s k) (up-to r k s)
+    where
+      Prefix : ℕ → Type 0
+      Prefix j = Run (voteIn file plan) (ticksOfRound (voteIn file plan) (eventsIn file plan r) (channelIn file plan r) j)
+
+      go : Dec (s ≡ k) → (s < k → Prefix k → Prefix (suc s)) → Prefix (suc s)
+      go (yes e) f = rw e run
+      go (no e) f = f (omega (arith, e)) (run .0)
+
+  pub bench-tick-accepted : (r s : ℕ) → r < plan .rounds → s < plan .n
+      → tickNumber (headOf (roundsIn file plan r starts) s) (receivedIn (roundsIn file plan r starts) (wordAt (rowsIn file plan r) (s * 4)) (plan .n)) (getD (coinsIn file plan r) s 0) ≡ 0
+  bench-tick-accepted r s early h =
+      ap₂ (λ (head : Head) (list : List ℕ). tickNumber head list (getD (coinsIn file plan r) s 0))
+      (heads-are r s h ∙ sym (untouched (voteIn file plan) (eventsIn file plan r) (channelIn file plan r) s s (omega arith)))
+      (received-same r (heads-are r) s (plan .n) (omega arith))
+      ∙ no-early-refusal (voteIn file plan) _ _ (up-to r (plan .n) s h (rounds-are-run (suc r) early)) few
+    where
+      few : length (ticksOfRound (voteIn file plan) (eventsIn file plan r) (channelIn file plan r) s) < 65534
+      few =
+          let least : plan .n ≤ 32 = omega (arith, accepted .heads) in
+          let most : r ≤ 256 = omega (arith, accepted .rounds) in
+          omega (arith, round-length r s, events-length r, mul-le-mul most least, least)

@@ -1,5 +1,6 @@
+pub mod Sections
+pub mod Plans
+pub mod Placing
 pub mod BenchIsRun
 pub mod Decimals
-pub mod Placing
-pub mod Plans
-pub mod Sections
+pub mod PrintedCase

@@ -110,3 +110,17 @@ module _ (file : List ℕ) (room : ℕ) where
         row = L .row;
         coin = λ i h. C .bit i (omega (arith, h, C .sized));
       })))))
+
+  pub accepted-file : planOf file room .number ≡ 0 → AcceptedFile file room (planOf file room)
+  accepted-file zero = go planned
+    where
+      go : Either (planOf file room) → AcceptedFile file room (planOf file room)
+      go (inl accepted) = accepted
+      go (inr refused) = absurd (omega (arith, zero, ap (λ (p : Plan). p .number) (refused .is), refused .low))
+
+  pub refused-file : (planOf file room .number ≡ 0 → ⊥) → RefusedFile (planOf file room)
+  refused-file number = go planned
+    where
+      go : Either (planOf file room) → RefusedFile (planOf file room)
+      go (inl accepted) = absurd (number (accepted .number))
+      go (inr refused) = refused

@@ -32,5 +32,6 @@ pub mod TwoRounds
 pub mod Ledger
 pub mod OneEvent
 pub mod Runs
+pub mod Phases
 pub mod WrittenOut
 pub mod Demands
