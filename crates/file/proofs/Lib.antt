@@ -4,3 +4,5 @@ pub mod Placing
 pub mod BenchIsRun
 pub mod Decimals
 pub mod PrintedCase
+pub mod FirstBytes
+pub mod TheBench

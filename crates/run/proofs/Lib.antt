@@ -1,6 +1,7 @@
 pub mod Again
 pub mod Calling
 pub mod Checking
+pub mod Only
 pub mod Parts
 pub mod Planned
 pub mod Planning

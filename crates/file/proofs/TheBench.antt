@@ -1,0 +1,109 @@
+-- The bench. Read this page first: each theorem below answers the sentence above it, over the definitions that the promises
+-- of crate `run` cite. Specs: Section and Plan for the file, Table and Vote for the run, Figures and Report for what is
+-- printed.
+use Prim.Native.Nat.{ℕ, _+_, _*_, _≤_, _<_}
+use mathlib.Core.Path.{_≡_, refl, sym, ap, _∙_}
+use mathlib.Core.List.{List}
+use native.Mathlib.Omega.{arith}
+use lib.ListN.{length, getD, take}
+use Rattle.rules.specs.declared.Head.{Head}
+use Rattle.rules.specs.Below.{count}
+use Rattle.rules.specs.Ballot.{valueOf}
+use Rattle.rules.specs.Heard.{size}
+use Rattle.rules.specs.Head.{decisionFor, isDecided}
+use Rattle.rules.specs.Tick.{tickNumber}
+use Rattle.rules.specs.Record.{wordAt}
+use Rattle.rules.specs.Run.{Vote, Event, headIn, Run, Written}
+use Rattle.rules.proofs.Demands.{no-two-decisions-differ, each-was-proposed}
+use Rattle.file.specs.declared.Plan.{Plan}
+use Rattle.file.specs.Plan.{planOf}
+use Rattle.file.specs.Table.{headOf, startsIn, rowsIn, coinsIn, receivedIn, roundsIn, tableAfter}
+use Rattle.file.specs.Vote.{voteIn, eventsIn}
+use Rattle.file.specs.Figures.{outcomeIn, outcomeOf}
+use Rattle.file.specs.Report.{reportOf}
+use Rattle.file.proofs.Plans.{AcceptedFile, RefusedFile, accepted-file, refused-file}
+use Rattle.file.proofs.Placing.{after-length, after-rest}
+use Rattle.file.proofs.BenchIsRun.{heads-are, rounds-are-run, bench-tick-accepted}
+use Rattle.file.proofs.FirstBytes.{refused-table, the-first-bytes-decide}
+
+-- a run file that the bench accepts in a table
+abbrev pub Accepts : List ℕ → List Head → Type 0
+Accepts file table = outcomeOf file table .number ≡ 0
+
+-- the plan of a file in a table
+abbrev pub planFor : List ℕ → List Head → Plan
+planFor file table = planOf file (length table)
+
+-- its vote, and the ticks of its rounds
+abbrev pub voteFor : List ℕ → List Head → Vote
+voteFor file table = voteIn file (planFor file table)
+
+abbrev pub eventsFor : List ℕ → List Head → List Event
+eventsFor file table = eventsIn file (planFor file table) (planFor file table .rounds)
+
+same-number : (file : List ℕ) (table : List Head) → outcomeOf file table .number ≡ planFor file table .number
+unfolding outcomeOf outcomeIn
+same-number file table = refl
+
+accepted : (file : List ℕ) (table : List Head) → Accepts file table → AcceptedFile file (length table) (planFor file table)
+accepted file table zero = accepted-file file (length table) (sym (same-number file table) ∙ zero)
+
+-- ---- Demand 1
+
+-- document 01's rules for a run file: what is accepted keeps them all, byte for byte (AcceptedFile), and has no other byte
+pub an-accepted-file-keeps-every-rule : (file : List ℕ) (table : List Head) → Accepts file table → AcceptedFile file (length table) (planFor file table)
+an-accepted-file-keeps-every-rule = accepted
+
+-- "Refused: nothing in the table changes."
+pub a-refused-file-changes-nothing : (file : List ℕ) (table : List Head) → (Accepts file table → ⊥) → tableAfter file table ≡ table
+a-refused-file-changes-nothing file table refused =
+    let R = refused-file file (length table) (λ zero. refused (same-number file table ∙ zero)) in
+    refused-table file table (R .number) (R .place) (R .is)
+
+-- "after a run the first n are the heads and the others are untouched"
+pub the-others-are-untouched : (file : List ℕ) (table : List Head) (s : ℕ) → planFor file table .n ≤ s → headOf (tableAfter file table) s ≡ headOf table s
+the-others-are-untouched = after-rest
+
+pub the-table-keeps-its-length : (file : List ℕ) (table : List Head) → length (tableAfter file table) ≡ length table
+the-table-keeps-its-length = after-length
+
+-- ---- Demand 3
+
+-- the rounds of an accepted file are a run of demand 3
+pub a-bench-run-is-a-run : (file : List ℕ) (table : List Head) → Accepts file table → Run (voteFor file table) (eventsFor file table)
+a-bench-run-is-a-run file table zero = let plan = planFor file table in rounds-are-run file plan table (accepted file table zero) (plan .rounds) (omega arith)
+
+-- and the first n heads of the table are its heads
+pub the-table-holds-the-heads : (file : List ℕ) (table : List Head) → Accepts file table → (s : ℕ) → s < planFor file table .n
+    → headOf (tableAfter file table) s ≡ headIn (voteFor file table) (eventsFor file table) s
+unfolding tableAfter
+the-table-holds-the-heads file table zero s h = let plan = planFor file table in heads-are file plan table (accepted file table zero) (plan .rounds) s h
+
+-- so no tick of it is refused: head s in round r, with the ballots not lost to it and its coin
+pub no-tick-of-the-bench-is-refused : (file : List ℕ) (table : List Head) → Accepts file table → (r s : ℕ) → r < planFor file table .rounds → s < planFor file table .n
+    → let plan = planFor file table in
+    let before = roundsIn file plan r (startsIn file (plan .n) table) in
+    tickNumber (headOf before s) (receivedIn before (wordAt (rowsIn file plan r) (s * 4)) (plan .n)) (getD (coinsIn file plan r) s 0) ≡ 0
+no-tick-of-the-bench-is-refused file table zero r s early h = bench-tick-accepted file (planFor file table) table (accepted file table zero) r s early h
+
+-- "No two decisions differ"
+pub no-two-decisions-in-the-table-differ : (file : List ℕ) (table : List Head) → Accepts file table → (s t : ℕ) → s < planFor file table .n → t < planFor file table .n
+    → Written (headOf (tableAfter file table) s) → Written (headOf (tableAfter file table) t) → headOf (tableAfter file table) s .decision ≡ headOf (tableAfter file table) t .decision
+no-two-decisions-in-the-table-differ file table zero s t hs ht ws wt =
+    let a = the-table-holds-the-heads file table zero s hs in
+    let b = the-table-holds-the-heads file table zero t ht in
+    ap (λ (h : Head). h .decision) a ∙ no-two-decisions-differ (voteFor file table) (eventsFor file table) (a-bench-run-is-a-run file table zero) s t hs ht (rw a at ws) (rw b at wt) ∙ sym (ap (λ (h : Head). h .decision) b)
+
+-- "each was proposed by some head"
+pub each-decision-in-the-table-was-proposed : (file : List ℕ) (table : List Head) → Accepts file table → (s : ℕ) → s < planFor file table .n → Written (headOf (tableAfter file table) s)
+    → (t : ℕ) × (t < planFor file table .n) × (headOf (tableAfter file table) s .decision ≡ decisionFor (valueOf (getD file (2 + t) 0)))
+each-decision-in-the-table-was-proposed file table zero s hs ws =
+    let a = the-table-holds-the-heads file table zero s hs in
+    let r = each-was-proposed (voteFor file table) (eventsFor file table) (a-bench-run-is-a-run file table zero) s hs (rw a at ws) in
+    (r .0, r .1, ap (λ (h : Head). h .decision) a ∙ r .2)
+
+-- ---- What is printed
+
+-- "reads standard input": the first 41,002 bytes decide
+pub the-first-41002-bytes-decide : (file : List ℕ) (m : ℕ) → 41002 ≤ m → reportOf (take m file) ≡ reportOf file
+the-first-41002-bytes-decide = the-first-bytes-decide
