@@ -6,13 +6,13 @@ use mathlib.Core.Bool.{Bool, true, false}
 use native.Mathlib.Decide.{decLt}
 use native.Mathlib.Omega.{arith}
 use lib.ListN.{length, take, drop, set, length-take, length-drop, length-append, length-set, drop-of-length-le}
-use lib.Seq.{take-all, take-length, drop-length, take-at, sets, sets-eq, length-take-le}
+use lib.Seq.{take-all, take-length, drop-length, take-set-le, take-at, sets, sets-eq, length-take-le}
 use Rattle.rules.specs.declared.Ballot.{Ballot}
 use Rattle.rules.specs.Ballot.{valueCode, statusCode, bytesOf}
 use Rattle.file.specs.declared.Section.{Section}
 use Rattle.file.specs.declared.Section.the-variants.{Body, Refused}
 use Rattle.file.specs.Section.{bodyOf}
-use Rattle.run.specs.Survey.{withHeard}
+use Rattle.run.specs.Survey.{keptBytes, withHeard}
 use Rattle.run.specs.Small.{Near}
 
 take-least : (size : ℕ) (xs : List ℕ) → take (min size (length xs)) xs ≡ take size xs
@@ -47,14 +47,21 @@ part-short start size xs = omega (arith, length-take size (drop start xs))
 
 -- ---- a list of ballots grows by one
 
-pub lost-stays : (list : List ℕ) (b : Ballot) (lost : Bool) → lost ≡ true → list ≡ withHeard list b lost
-lost-stays list b lost e = rw (e, append-nil list) refl
+-- five stores, one after the other
+abbrev stores : List ℕ → ℕ → ℕ → ℕ → ℕ → ℕ → ℕ → List ℕ
+stores l at v w x y z = set (set (set (set (set l at v) (at + 1) w) (at + 2) x) (at + 3) y) (at + 4) z
 
--- five stores, one after the other, and the length that they leave
-pub stored-length : (l : List ℕ) (a b c d e v w x y z : ℕ) → length (set (set (set (set (set l a v) b w) c x) d y) e z) ≡ length l
-stored-length l a b c d e v w x y z = rw (length-set _ e z, length-set _ d y, length-set _ c x, length-set _ b w, length-set _ a v) refl
+pub stored-length : (l : List ℕ) (at v w x y z : ℕ) → length (stores l at v w x y z) ≡ length l
+stored-length l at v w x y z = rw (length-set _ (at + 4) z, length-set _ (at + 3) y, length-set _ (at + 2) x, length-set _ (at + 1) w, length-set _ at v) refl
 
-stored : (l : List ℕ) (at v w x y z : ℕ) → set (set (set (set (set l at v) (at + 1) w) (at + 2) x) (at + 3) y) (at + 4) z ≡ sets l at (v ∷ w ∷ x ∷ y ∷ z ∷ [])
+-- they leave what stands before them
+stored-before : (l : List ℕ) (at v w x y z : ℕ) → take at (stores l at v w x y z) ≡ take at l
+stored-before l at v w x y z =
+    take-set-le at _ (at + 4) z (omega arith) ∙ take-set-le at _ (at + 3) y (omega arith) ∙ take-set-le at _ (at + 2) x (omega arith)
+    ∙ take-set-le at _ (at + 1) w (omega arith) ∙ take-set-le at l at v (omega arith)
+
+-- and put five bytes after it
+stored : (l : List ℕ) (at v w x y z : ℕ) → stores l at v w x y z ≡ sets l at (v ∷ w ∷ x ∷ y ∷ z ∷ [])
 stored l at v w x y z =
     let one : at + 1 ≡ suc at = omega arith in
     let two : at + 2 ≡ suc (suc at) = omega arith in
@@ -62,15 +69,28 @@ stored l at v w x y z =
     let four : at + 4 ≡ suc (suc (suc (suc at))) = omega arith in
     rw (one, two, three, four) refl
 
-pub heard-grows : (l : List ℕ) (at v s : ℕ) (b : Ballot) (lost : Bool) → lost ≡ false → at + 5 ≤ length l → v ≡ valueCode (b .value) → s ≡ statusCode (b .status)
-    → take (at + 5) (set (set (set (set (set l at (b .sender)) (at + 1) v) (at + 2) s) (at + 3) (b .phase / 256)) (at + 4) (b .phase % 256)) ≡ withHeard (take at l) b lost
-heard-grows l at v s b lost e h value status =
-    ap (take (at + 5)) (ap₂ (λ (x y : ℕ). set (set (set (set (set l at (b .sender)) (at + 1) x) (at + 2) y) (at + 3) (b .phase / 256)) (at + 4) (b .phase % 256)) value status ∙ stored l at _ _ _ _ _ ∙ sets-eq (bytesOf b) l at h)
-    ∙ take-at (take at l ++ bytesOf b) (drop (at + 5) l) (at + 5) front
-    ∙ rw e refl
+stored-after : (l : List ℕ) (at v w x y z : ℕ) → at + 5 ≤ length l → take (at + 5) (stores l at v w x y z) ≡ take at l ++ (v ∷ w ∷ x ∷ y ∷ z ∷ [])
+stored-after l at v w x y z h =
+    ap (take (at + 5)) (stored l at v w x y z ∙ sets-eq five l at h) ∙ take-at (take at l ++ five) (drop (at + 5) l) (at + 5) front
   where
-    front : length (take at l ++ bytesOf b) ≡ at + 5
-    front = length-append (take at l) (bytesOf b) ∙ ap (λ (k : ℕ). k + 5) (length-take-le at l (omega arith))
+    five : List ℕ
+    five = v ∷ w ∷ x ∷ y ∷ z ∷ []
+
+    front : length (take at l ++ five) ≡ at + 5
+    front = length-append (take at l) five ∙ ap (λ (k : ℕ). k + 5) (length-take-le at l (omega arith))
+
+-- a ballot's five bytes, kept or lost
+kept-or-lost : (l : List ℕ) (at : ℕ) (b : Ballot) (lost : Bool) → at + 5 ≤ length l
+    → take (at + keptBytes lost) (stores l at (b .sender) (valueCode (b .value)) (statusCode (b .status)) (b .phase / 256) (b .phase % 256)) ≡ withHeard (take at l) b lost
+kept-or-lost l at b true h =
+    let none : at + 0 ≡ at = omega arith in
+    ap (λ (k : ℕ). take k (stores l at (b .sender) (valueCode (b .value)) (statusCode (b .status)) (b .phase / 256) (b .phase % 256))) none ∙ stored-before l at _ _ _ _ _ ∙ sym (append-nil (take at l))
+kept-or-lost l at b false h = stored-after l at _ _ _ _ _ h
+
+pub heard-or-lost : (l : List ℕ) (at v s high low kept : ℕ) (b : Ballot) (lost : Bool) → at + 5 ≤ length l
+    → v ≡ valueCode (b .value) → s ≡ statusCode (b .status) → high ≡ b .phase / 256 → low ≡ b .phase % 256 → kept ≡ keptBytes lost
+    → take (at + kept) (stores l at (b .sender) v s high low) ≡ withHeard (take at l) b lost
+heard-or-lost l at v s high low kept b lost h x y z w k = rw (x, y, z, w, k) (kept-or-lost l at b lost h)
 
 -- ---- a section's body
 

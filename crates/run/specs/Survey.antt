@@ -28,6 +28,10 @@ unfoldable pub surveyOf : ℕ → List Head → Survey
 surveyOf zero table = noSurvey
 surveyOf (suc k) table = noted (surveyOf k table) k (headOf table k)
 
+-- how many bytes of a list a ballot takes: none where it is lost
+abbrev pub keptBytes : Bool → ℕ
+keptBytes lost = cond lost 0 5
+
 -- a list of ballots, and one more unless it is lost
 abbrev pub withHeard : List ℕ → Ballot → Bool → List ℕ
 withHeard list ballot lost = list ++ cond lost [] (bytesOf ballot)

@@ -1,11 +1,11 @@
 // One head of the table at a time, by value: its start, what it shows, its tick in a round.
 ghost use mathlib.Core.Path.{_≡_};
-ghost use Prim.Native.Nat.{_+_, _*_, _≤_, _<_};
+ghost use Prim.Native.Nat.{_*_, _/_, _%_, _≤_, _<_};
 ghost use lib.ListN.{length, take};
 ghost use Rattle.rules.specs.Heard.{member};
 ghost use Rattle.rules.specs.Head.{zeroHead};
 ghost use Rattle.file.specs.Table.{startIn, rowsIn, coinsIn};
-ghost use Rattle.run.specs.Survey.{noSurvey, noted, withHeard, receivedFrom, tickedBy};
+ghost use Rattle.run.specs.Survey.{noSurvey, noted, keptBytes, receivedFrom, tickedBy};
 ghost use Rattle.run.specs.Small.{Small};
 use crate::sections::byte_at;
 use crate::sections::part;
@@ -135,28 +135,30 @@ pub(crate) fn coins_of<'a>(file: &'a [u8], plan: Plan, r: usize) -> &'a [u8]
     part(file, from, n)
 }
 
-// The ballots that are not lost, in sender order.
+// The ballots that are not lost, in sender order: each is written, and a lost one is written over.
 fn received(ballots: [Ballot; 32], lost: u32, n: usize) -> Heard
     requires { ⌜ n ≤ 32 ⌝ }
     ensures { λ r. ⌜ (r .length ≤ n * 5) × (length (r .bytes) ≡ 160) × (take (r .length) (r .bytes) ≡ receivedFrom ballots lost n) ⌝ }
 {
-    let mut list = nothing_heard();
+    let mut bytes: [u8; 160] = [0; 160];
+    let mut at = 0;
     let mut k = 0;
     while k < n {
         let ballot = ballots[k];
-        list = with_heard(list, ballot, is_lost(lost, k));
+        let value = ballot.value;
+        let status = ballot.status;
+        let phase = ballot.phase;
+        bytes[at] = ballot.sender;
+        bytes[at + 1] = value_code(value);
+        bytes[at + 2] = status_code(status);
+        bytes[at + 3] = high_byte(phase);
+        bytes[at + 4] = low_byte(phase);
+        at = at + kept_bytes(is_lost(lost, k));
         k = k + 1;
     }
-    list
-}
-
-fn nothing_heard() -> Heard
-    ensures { λ r. ⌜ (r .length ≡ 0) × (length (r .bytes) ≡ 160) ⌝ }
-{
-    let none = [0; 160];
     Heard {
-        bytes: none,
-        length: 0,
+        bytes: bytes,
+        length: at,
     }
 }
 
@@ -168,25 +170,22 @@ fn is_lost(lost: u32, s: usize) -> bool
     (lost >> (s as u32)) % 2 == 1
 }
 
-fn with_heard(list: Heard, ballot: Ballot, lost: bool) -> Heard
-    requires { ⌜ (list .length + 5 ≤ 160) × (length (list .bytes) ≡ 160) ⌝ }
-    ensures { λ r. ⌜ (r .length ≤ list .length + 5) × (length (r .bytes) ≡ 160) × (take (r .length) (r .bytes) ≡ withHeard (take (list .length) (list .bytes)) ballot lost) ⌝ }
+// How many bytes of a list a ballot takes.
+fn kept_bytes(lost: bool) -> usize
+    ensures { λ r. ⌜ r ≡ keptBytes lost ⌝ }
 {
-    if lost {
-        return list;
-    }
-    let at = list.length;
-    let value = ballot.value;
-    let status = ballot.status;
-    let phase = ballot.phase;
-    let mut bytes = list.bytes;
-    bytes[at] = ballot.sender;
-    bytes[at + 1] = value_code(value);
-    bytes[at + 2] = status_code(status);
-    bytes[at + 3] = (phase / 256) as u8;
-    bytes[at + 4] = (phase % 256) as u8;
-    Heard {
-        bytes: bytes,
-        length: at + 5,
-    }
+    if lost { 0 } else { 5 }
+}
+
+// "phase, high byte first"
+fn high_byte(phase: u16) -> u8
+    ensures { λ r. ⌜ r ≡ phase / 256 ⌝ }
+{
+    (phase / 256) as u8
+}
+
+fn low_byte(phase: u16) -> u8
+    ensures { λ r. ⌜ r ≡ phase % 256 ⌝ }
+{
+    (phase % 256) as u8
 }
