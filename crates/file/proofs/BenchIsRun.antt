@@ -14,13 +14,12 @@ use Rattle.rules.specs.Heard.{member}
 use Rattle.rules.specs.Head.{ballotOf}
 use Rattle.rules.specs.Tick.{tickNumber, tickOf}
 use Rattle.rules.specs.Record.{wordAt}
-use Rattle.rules.specs.Run.{Event, headIn, Run}
+use Rattle.rules.specs.Run.{headIn, Run}
 use Rattle.rules.specs.Round.{received, ticksOfRound}
 use Rattle.rules.proofs.Rounds.{round-is-run, untouched, ticked-once}
 use Rattle.rules.proofs.Phases.{no-early-refusal}
 use Rattle.file.specs.declared.Plan.{Plan}
-use Rattle.file.specs.Plan.{planOf}
-use Rattle.file.specs.Table.{headOf, placed, startIn, startsIn, rowsIn, coinsIn, receivedIn, tickedIn, roundIn, roundsIn, tableAfter}
+use Rattle.file.specs.Table.{headOf, startIn, startsIn, rowsIn, coinsIn, receivedIn, tickedIn, roundIn, roundsIn}
 use Rattle.file.specs.Vote.{voteIn, channelIn, eventsIn}
 use Rattle.file.proofs.Placing.{placed-length, placed-at, rounds-length}
 use Rattle.file.proofs.Plans.{AcceptedFile}

@@ -13,21 +13,19 @@ use borrow.Author.Tests.{lt-ltb, le-ltb, ltb-false}
 use Rattle.rules.specs.declared.Head.{Head}
 use Rattle.rules.specs.Below.{count}
 use Rattle.rules.specs.Ballot.{notHeads}
-use Rattle.rules.specs.Given.{Heads}
 use Rattle.rules.proofs.Meanings.{heads}
 use Rattle.file.specs.declared.Section.{Section}
 use Rattle.file.specs.declared.Section.the-variants.{Body, Refused}
 use Rattle.file.specs.declared.Plan.{Plan}
 use Rattle.file.specs.declared.Outcome.{Outcome}
-use Rattle.file.specs.declared.Benched.{Benched}
 use Rattle.file.specs.Section.{countAt, bodyOf, counted, firstBroken, unlessBroken, checked, notBit, notNeed, notRow, proposalsOf, neededOf, lossesOf, coinsOf}
 use Rattle.file.specs.Plan.{refusedPlan, taken, closed, afterLosses, afterNeeded, afterProposals, planOf}
 use Rattle.file.specs.Table.{tableAfter}
 use Rattle.file.specs.Figures.{boundOf, outcomeIn, outcomeOf}
-use Rattle.file.specs.Benched.{emptyTable, benchedOf}
+use Rattle.file.specs.Benched.{emptyTable}
 use Rattle.file.specs.Report.{joined, linesOf, reportOf}
 use Rattle.file.proofs.Sections.{counted-body, proposals-body, needed-body, losses-body, coins-body}
-use Rattle.file.proofs.Plans.{RefusedFile, accepted-file, refused-file}
+use Rattle.file.proofs.Plans.{accepted-file, refused-file}
 use Rattle.file.proofs.Placing.{after-nothing}
 
 -- ---- a refused file's outcome is its number and place

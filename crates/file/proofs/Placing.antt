@@ -1,16 +1,16 @@
 -- The table with heads placed in it: who stands where, and who is left alone.
 use Prim.Native.Nat.{ℕ, zero, suc, _≤_, _<_}
-use mathlib.Core.Path.{_≡_, refl, sym, ap, _∙_}
+use mathlib.Core.Path.{_≡_, refl, _∙_}
 use mathlib.Core.List.{List}
 use native.Mathlib.Decide.{ℕ-discrete}
 use native.Mathlib.Omega.{arith}
-use lib.ListN.{length, getD, set, length-set}
+use lib.ListN.{length, set, length-set}
 use lib.Seq.{getD-set-same, getD-set-other}
 use Rattle.rules.specs.declared.Head.{Head}
 use Rattle.rules.specs.Head.{zeroHead}
 use Rattle.file.specs.declared.Plan.{Plan}
 use Rattle.file.specs.Plan.{planOf}
-use Rattle.file.specs.Table.{headOf, placed, tickedIn, roundIn, rowsIn, coinsIn, roundsIn, startIn, startsIn, tableAfter}
+use Rattle.file.specs.Table.{headOf, placed, roundIn, roundsIn, startIn, startsIn, tableAfter}
 
 pub placed-length : (k : ℕ) (f : ℕ → Head) (table : List Head) → length (placed k f table) ≡ length table
 unfolding placed

@@ -1,7 +1,7 @@
 -- What a plan says: either the file is refused, by a number from 12 to 16, and there are no heads and no rounds; or it is
 -- accepted, and every byte of it has its place and keeps its rule.
 use Prim.Native.Nat.{ℕ, _+_, _*_, _≤_, _<_}
-use mathlib.Core.Path.{_≡_, refl, sym, ap, subst, _∙_}
+use mathlib.Core.Path.{_≡_, refl, ap}
 use mathlib.Core.List.{List}
 use mathlib.Core.Bool.{Bool, true, false, cond}
 use mathlib.Core.Logic.{_⊎_, inl, inr}

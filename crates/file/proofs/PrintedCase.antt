@@ -3,9 +3,6 @@ use Prim.Native.Nat.{ℕ}
 use mathlib.Core.Path.{_≡_, refl}
 use mathlib.Core.List.{List, [], _∷_, _++_}
 use lib.ListN.{replicate}
-use Rattle.rules.specs.Below.{first, count}
-use Rattle.rules.specs.Ballot.{notHeads}
-use Rattle.rules.specs.Heard.{size}
 use Rattle.rules.proofs.Computing.{computing}
 use Rattle.file.specs.Section.{counted, unlessBroken, checked, proposalsOf, neededOf, lossesOf, coinsOf}
 use Rattle.file.specs.Plan.{closed, afterLosses, afterNeeded, afterProposals, planOf}

@@ -7,10 +7,8 @@ use mathlib.Core.List.{List}
 use native.Mathlib.Omega.{arith}
 use lib.ListN.{length, getD, take}
 use Rattle.rules.specs.declared.Head.{Head}
-use Rattle.rules.specs.Below.{count}
 use Rattle.rules.specs.Ballot.{valueOf}
-use Rattle.rules.specs.Heard.{size}
-use Rattle.rules.specs.Head.{decisionFor, isDecided}
+use Rattle.rules.specs.Head.{decisionFor}
 use Rattle.rules.specs.Tick.{tickNumber}
 use Rattle.rules.specs.Record.{wordAt}
 use Rattle.rules.specs.Run.{Vote, Event, headIn, Run, Written}
@@ -21,7 +19,7 @@ use Rattle.file.specs.Table.{headOf, startsIn, rowsIn, coinsIn, received
 use Rattle.file.specs.Vote.{voteIn, eventsIn}
 use Rattle.file.specs.Figures.{outcomeIn, outcomeOf}
 use Rattle.file.specs.Report.{reportOf}
-use Rattle.file.proofs.Plans.{AcceptedFile, RefusedFile, accepted-file, refused-file}
+use Rattle.file.proofs.Plans.{AcceptedFile, accepted-file, refused-file}
 use Rattle.file.proofs.Placing.{after-length, after-rest}
 use Rattle.file.proofs.BenchIsRun.{heads-are, rounds-are-run, bench-tick-accepted}
 use Rattle.file.proofs.FirstBytes.{refused-table, the-first-bytes-decide}

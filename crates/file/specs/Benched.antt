@@ -1,6 +1,6 @@
 -- A whole vote by value, in a table of 32 heads of zeros.
-use mathlib.Core.List.{List}
 use Prim.Native.Nat.{ℕ}
+use mathlib.Core.List.{List}
 use lib.ListN.{replicate}
 use Rattle.rules.specs.declared.Head.{Head}
 use Rattle.rules.specs.Head.{zeroHead}

@@ -1,6 +1,6 @@
 -- What the program prints. Document 01, 'Run file and bench': "First line: n, k, the good-round bound. One line a head, its
 -- last state .. Last line: rounds run, good rounds, heads whose status is decided. A refusal prints one line only".
-use Prim.Native.Nat.{ℕ, zero, suc, _+_, _-_, _^_}
+use Prim.Native.Nat.{ℕ, zero, suc, _-_, _^_}
 use Prim.Native.Char.{code}
 use Prim.Native.String.{String, [] as none, _∷_ as _then_}
 use mathlib.Core.List.{List, [], _∷_, _++_}

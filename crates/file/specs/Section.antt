@@ -5,7 +5,7 @@ use mathlib.Core.List.{List, []}
 use mathlib.Core.Bool.{Bool, cond, _&&_, not}
 use lib.ListN.{length, getD, take, drop}
 use lib.Dec.{ltb, leb, eqb}
-use Rattle.rules.specs.Below.{first, some}
+use Rattle.rules.specs.Below.{first}
 use Rattle.rules.specs.Ballot.{notHeads}
 use Rattle.rules.specs.Heard.{overHalf, within}
 use Rattle.rules.specs.Record.{wordAt}

@@ -1,7 +1,7 @@
 -- The bench in a lent table of heads: the starts, the rounds, and what the table holds after a run. Document 01, 'Run file
 -- and bench'.
 use Prim.Native.Nat.{ℕ, zero, suc, _+_, _*_}
-use mathlib.Core.List.{List, [], _∷_, _++_}
+use mathlib.Core.List.{List, [], _++_}
 use mathlib.Core.Bool.{cond}
 use lib.ListN.{length, getD, set, take, drop}
 use Rattle.rules.specs.declared.Head.{Head}

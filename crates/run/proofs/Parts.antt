@@ -1,14 +1,15 @@
 -- Parts of a list of bytes: what a clamped part holds, and what five stores leave.
-use Prim.Native.Nat.{ℕ, suc, _+_, _-_, _/_, _%_, _≤_, _<_, min}
-use mathlib.Core.Path.{_≡_, refl, sym, ap, ap₂, _∙_}
+use Prim.Native.Nat.{ℕ, suc, _+_, _-_, _*_, _/_, _%_, _≤_, _<_, min}
+use mathlib.Core.Path.{_≡_, refl, sym, ap, _∙_}
 use mathlib.Core.List.{List, [], _∷_, _++_, append-nil}
 use mathlib.Core.Bool.{Bool, true, false}
 use native.Mathlib.Decide.{decLt}
+use native.Mathlib.Nat.{mul-le-mul}
 use native.Mathlib.Omega.{arith}
 use lib.ListN.{length, take, drop, set, length-take, length-drop, length-append, length-set, drop-of-length-le}
 use lib.Seq.{take-all, take-length, drop-length, take-set-le, take-at, sets, sets-eq, length-take-le}
 use Rattle.rules.specs.declared.Ballot.{Ballot}
-use Rattle.rules.specs.Ballot.{valueCode, statusCode, bytesOf}
+use Rattle.rules.specs.Ballot.{valueCode, statusCode}
 use Rattle.file.specs.declared.Section.{Section}
 use Rattle.file.specs.declared.Section.the-variants.{Body, Refused}
 use Rattle.file.specs.Section.{bodyOf}
@@ -44,6 +45,10 @@ part-is start size from more xs a b =
 -- a part is no longer than what it was asked for, nor than what there is from its start on
 pub part-short : (start size : ℕ) (xs : List ℕ) → length (take size (drop start xs)) ≤ size
 part-short start size xs = omega (arith, length-take size (drop start xs))
+
+-- a round's place among the rounds is small
+pub place-small : (r n : ℕ) → r < 256 → n ≤ 32 → r * n ≤ 8192
+place-small r n a b = let few : r ≤ 256 = omega arith in mul-le-mul few b
 
 -- ---- a list of ballots grows by one
 

@@ -1,8 +1,8 @@
 -- What a survey shows: the ballots of the heads, and how many are decided; and so a round of the code is a round of document
 -- 01.
 use Prim.Native.Nat.{ℕ, zero, suc, _+_, _*_, _≤_, _<_}
-use mathlib.Core.Path.{_≡_, refl, sym, ap, ap₂, _∙_}
-use mathlib.Core.List.{List, _++_}
+use mathlib.Core.Path.{_≡_, refl, ap₂, _∙_}
+use mathlib.Core.List.{List}
 use mathlib.Core.Bool.{cond}
 use native.Mathlib.Decide.{ℕ-discrete}
 use native.Mathlib.Omega.{arith}
@@ -14,7 +14,7 @@ use Rattle.rules.specs.declared.Status.the-variants.{Undecided, Decided}
 use Rattle.rules.specs.declared.Ballot.{Ballot}
 use Rattle.rules.specs.declared.Head.{Head}
 use Rattle.rules.specs.Below.{count}
-use Rattle.rules.specs.Ballot.{statusCode, bytesOf, zeroBallot}
+use Rattle.rules.specs.Ballot.{statusCode, zeroBallot}
 use Rattle.rules.specs.Heard.{member}
 use Rattle.rules.specs.Head.{zeroHead, isDecided, ballotOf}
 use Rattle.rules.specs.Tick.{tickOf}
@@ -23,7 +23,7 @@ use Rattle.rules.proofs.Below.{count-le}
 use Rattle.file.specs.Table.{headOf, placed, receivedIn, tickedIn, roundIn}
 use Rattle.file.specs.Figures.{decidedIn}
 use Rattle.run.specs.declared.heads.Survey.{Survey}
-use Rattle.run.specs.Survey.{noSurvey, noted, surveyOf, withHeard, receivedFrom, tickedBy, tickedAll}
+use Rattle.run.specs.Survey.{noted, surveyOf, withHeard, receivedFrom, tickedBy, tickedAll}
 
 -- ---- how many are decided
 

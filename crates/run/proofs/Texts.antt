@@ -1,10 +1,10 @@
 -- Texts that grow: what a word at the end leaves, and that words one after the other are their bytes joined.
-use Prim.Native.Nat.{ℕ, zero, suc, _+_, _-_, _*_, _≤_, _<_, min}
-use mathlib.Core.Path.{_≡_, refl, sym, ap, ap₂, subst, _∙_}
+use Prim.Native.Nat.{ℕ, zero, suc, _+_, _-_, _*_, _≤_, min}
+use mathlib.Core.Path.{_≡_, refl, sym, ap, ap₂, _∙_}
 use mathlib.Core.List.{List, [], _∷_, _++_, append-assoc, append-nil}
 use mathlib.Core.Bool.{Bool, true, false, cond}
 use native.Mathlib.Omega.{arith}
-use lib.ListN.{length, take, drop, replicate, length-append, length-replicate}
+use lib.ListN.{length, take, drop, replicate, length-append}
 use lib.Dec.{eqb}
 use lib.Seq.{paste, length-paste, take-length, take-append-seam, drop-append-add}
 use Rattle.rules.specs.declared.Value.{Value}
@@ -18,7 +18,7 @@ use Rattle.file.specs.declared.Outcome.{Outcome}
 use Rattle.file.specs.declared.Benched.{Benched}
 use Rattle.file.specs.declared.Text.{Text}
 use Rattle.file.specs.Table.{headOf}
-use Rattle.file.specs.Report.{decimal, valueWord, statusWord, decisionWord, joined, firstLine, headLine, headLines, lastLine, refusalLine, linesOf, textOf}
+use Rattle.file.specs.Report.{valueWord, statusWord, decisionWord, joined, firstLine, headLine, headLines, lastLine, refusalLine, linesOf, textOf}
 use Rattle.file.proofs.Decimals.{decimal-short}
 use Rattle.run.specs.Writing.{Held, noText, fitting, withWord, withAll}
 

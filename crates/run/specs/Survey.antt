@@ -1,7 +1,7 @@
 -- What the functions of `run` hand to one another: the ballots of a round, formed from the table before it, and the ticks
 -- with them.
 use Prim.Native.Nat.{ℕ, zero, suc, _+_, _*_}
-use mathlib.Core.List.{List, [], _∷_, _++_}
+use mathlib.Core.List.{List, [], _++_}
 use mathlib.Core.Bool.{Bool, cond, _||_}
 use lib.ListN.{getD, set, replicate}
 use lib.Dec.{ltb}
@@ -12,7 +12,7 @@ use Rattle.rules.specs.Heard.{member}
 use Rattle.rules.specs.Head.{ballotOf}
 use Rattle.rules.specs.Tick.{tickOf}
 use Rattle.rules.specs.Record.{wordAt}
-use Rattle.file.specs.Table.{headOf, placed}
+use Rattle.file.specs.Table.{headOf}
 use Rattle.run.specs.declared.heads.Survey.{Survey}
 
 abbrev pub noSurvey : Survey

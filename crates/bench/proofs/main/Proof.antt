@@ -4,59 +4,43 @@ use mathlib.Core.List.{List}
 use native.Mathlib.Omega.{arith}
 use lib.ListN.{length, take, replicate, length-append}
 use lib.Seq.{length-take-le}
+use borrow.Author.Needs.{needs}
 use Rattle.file.specs.declared.Text.{Text}
 use Rattle.file.specs.Report.{reportOf, textOf}
-use borrow.Author.Needs.{needs}
 use Rattle.bench.proofs.main.Statement.{statement}
 use Rattle.bench.proofs.main.Tie as tie
-use Rattle.bench.proofs.main.Reads as reads
-use Rattle.bench.proofs.main.Lts as lts
-use Rattle.io.proofs.large_buffer.Reads as large-buffer-reads
-use Rattle.io.proofs.read_full.Reads as read-full-reads
-use Rattle.io.proofs.write_all.Reads as write-all-reads
-use Rattle.run.proofs.report.Reads as report-reads
 
 -- a text's bytes are in it
 inside : {text : Text} (bytes : List ℕ) → text ≡ textOf bytes → text .length ≤ length (text .bytes)
 inside bytes e = subst (λ (t : Text). t .length ≤ length (t .bytes)) (sym e) (omega (arith, length-append bytes (replicate (4096 - length bytes) 0)))
 
--- src/main.rt:5:22
 large-buffer-requires : tie.Need-large-buffer-requires
 large-buffer-requires c κs = search needs
 
--- src/main.rt:6:30
 slice-aggregate-read-full : tie.Need-slice-aggregate-read-full
 slice-aggregate-read-full c = search needs
 
--- src/main.rt:6:9
 read-full-requires : tie.Need-read-full-requires
 read-full-requires c κs = search needs
 
--- src/main.rt:7:28
 array-share-prefix-buffer : tie.Need-array-share-prefix-buffer
 array-share-prefix-buffer c = search needs
 
--- src/main.rt:7:28
 slice-aggregate-report : tie.Need-slice-aggregate-report
 slice-aggregate-report c = search needs
 
--- src/main.rt:7:9
 report-requires : tie.Need-report-requires
 report-requires c κs = search needs
 
--- src/main.rt:10:22
 array-share-prefix-bytes : tie.Need-array-share-prefix-bytes
 array-share-prefix-bytes c = inside (reportOf (take (c .before .before .before .before .read-full .result) (c .before .before .before .before .read-full .last .1 .0))) (c .before .report .ensures)
 
--- src/main.rt:10:22
 slice-aggregate-write-all : tie.Need-slice-aggregate-write-all
 slice-aggregate-write-all c = sym (length-take-le (c .before .before .report .result .length) (c .before .before .report .result .bytes) (inside (reportOf (take (c .before .before .before .before .before .read-full .result) (c .before .before .before .before .before .read-full .last .1 .0))) (c .before .before .report .ensures)))
 
--- src/main.rt:10:5
 write-all-requires : tie.Need-write-all-requires
 write-all-requires c κs = search needs
 
--- src/main.rt:4:1
 returns : tie.Need-returns
 returns c = search needs
 

@@ -1,14 +1,11 @@
-use Prim.Native.Nat.{_<_}
+use Prim.Native.Nat.{_<_, ℕ, _+_, _*_, _/_, _-_, _≤_}
+use mathlib.Core.Path.{_≡_, refl}
 use native.Mathlib.Omega.{arith}
-use mathlib.Core.Path.{_≡_, refl, sym, ap, _∙_}
-use Prim.Native.Nat.{ℕ, _+_, _*_, _/_, _-_, _≤_}
 use native.Mathlib.Nat.{mul-le-mul}
-use Rattle.file.specs.Figures.{boundOf}
 use borrow.Author.Needs.{needs}
+use Rattle.file.specs.Figures.{boundOf}
 use Rattle.run.proofs.figures.bound.Statement.{statement}
 use Rattle.run.proofs.figures.bound.Tie as tie
-use Rattle.run.proofs.figures.bound.Reads as reads
-use Rattle.run.proofs.figures.bound.Lts as lts
 
 nothing-left : (sum : ℕ) → sum < 2 → 0 ≡ sum - 2
 nothing-left sum h = omega arith
@@ -20,28 +17,22 @@ product-small n k small =
     let rest : n - k ≤ 32 = omega (arith, small) in
     mul-le-mul half rest
 
--- src/figures.rt:74:16
 add-sum : tie.Need-add-sum
 add-sum c = search needs
 
--- src/figures.rt:74:30
 sub-sum : tie.Need-sub-sum
 sub-sum c = search needs
 
--- src/figures.rt:74:15
 mul-sum : tie.Need-mul-sum
 mul-sum c = omega (arith, product-small (c .args .n) (c .args .k) (c .pre .0))
 
--- src/figures.rt:74:15
 add-sum-2 : tie.Need-add-sum-2
 add-sum-2 c = omega (arith, product-small (c .args .n) (c .args .k) (c .pre .0))
 
--- src/figures.rt:70:1
 returns : tie.Need-returns
 unfolding boundOf
 returns c = nothing-left ((c .before .args .n + 1) / 2 * (c .before .args .n - c .before .args .k) + c .before .args .k) (c .if1 .taken)
 
--- src/figures.rt:70:1
 returns-2 : tie.Need-returns-2
 unfolding boundOf
 returns-2 c = refl

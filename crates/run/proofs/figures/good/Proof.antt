@@ -1,23 +1,17 @@
+use Prim.Native.Nat.{ℕ, suc, _+_, _-_, _≤_}
 use mathlib.Core.List.{List}
 use mathlib.Core.Bool.{Bool, true, false, cond}
+use mathlib.Core.Path.{_≡_, refl, ap, _∙_}
+use native.Mathlib.Omega.{arith}
+use native.Mathlib.Nat.{le-antisymm}
 use lib.Dec.{leb}
 use mir.Val.{boolByte}
+use Rattle.rules.specs.Below.{count}
 use Rattle.file.specs.declared.Plan.{Plan}
 use Rattle.file.specs.Table.{rowsIn}
-use Rattle.file.specs.Figures.{lostIn, boundOf}
-use native.Mathlib.Omega.{arith}
-use borrow.Author.Needs.{needs}
-use Prim.Native.Nat.{ℕ, suc, _+_, _*_, _/_, _-_, _≤_, _<_}
-use mathlib.Core.Path.{_≡_, refl, sym, ap, ap₂, subst, _∙_}
-use native.Mathlib.Nat.{le-antisymm}
-use Rattle.rules.specs.Below.{count}
-use Rattle.file.specs.Figures.{goodIn}
+use Rattle.file.specs.Figures.{lostIn, boundOf, goodIn}
 use Rattle.run.proofs.figures.good.Statement.{statement}
 use Rattle.run.proofs.figures.good.Tie as tie
-use Rattle.run.proofs.figures.good.Reads as reads
-use Rattle.run.proofs.figures.good.Lts as lts
-use Rattle.run.proofs.figures.lost_in.Reads as lost-in-reads
-use Rattle.run.proofs.heads.rows_of.Reads as rows-of-reads
 
 byte-is : (t : Bool) → boolByte t ≡ cond t 1 0
 byte-is true = refl
@@ -40,41 +34,32 @@ Inv-loop file plan most n rounds good₀ r₀ good r = (r ≤ rounds) × (good �
 abbrev μ-loop : tie.MeasureT-loop
 μ-loop file plan most n rounds good₀ r₀ good r = rounds - r
 
--- src/figures.rt:40:5
 loop-holds : tie.Need-loop-holds Inv-loop μ-loop
 unfolding count
 loop-holds c = (omega arith, refl, omega arith)
 
--- src/figures.rt:41:28
 rows-of-requires : tie.Need-rows-of-requires Inv-loop μ-loop
 rows-of-requires c κs = (c .before .before .before .pre .0, omega (arith, c .before .before .before .pre .0 .rounds))
 
--- src/figures.rt:41:13
 lost-in-requires : tie.Need-lost-in-requires Inv-loop μ-loop
 lost-in-requires c κs = c .before .before .before .before .pre .0 .heads
 
--- src/figures.rt:42:23
 cast-good : tie.Need-cast-good Inv-loop μ-loop
 cast-good c = tt
 
--- src/figures.rt:42:16
 add-good : tie.Need-add-good Inv-loop μ-loop
 add-good c = record { fits = omega (arith, byte-small (leb (c .lost-in .result) (c .before .before .before .before .before .args .most)), c .before .before .before .loop .inv .2, c .before .before .before .before .before .pre .0 .rounds) }
 
--- src/figures.rt:43:13
 add-r : tie.Need-add-r Inv-loop μ-loop
 add-r c = omega arith
 
--- src/figures.rt:40:5
 loop-less : tie.Need-loop-less Inv-loop μ-loop
 loop-less c = omega arith
 
--- src/figures.rt:40:5
 loop-again : tie.Need-loop-again Inv-loop μ-loop
 loop-again c = let e = c .before .before .before .loop .inv in
     (omega arith, good-more (c .before .before .before .before .before .args .file .now) (c .before .before .before .before .before .args .plan) _ _ _ _ (e .1) (c .lost-in .ensures ∙ ap (λ (rows : List ℕ). lostIn rows (c .before .before .before .before .before .args .plan .n)) (c .before .rows-of .ensures)) (c .before .before .before .before .before .pre .1), omega (arith, e .2, byte-small (leb (c .lost-in .result) (c .before .before .before .before .before .args .most))))
 
--- src/figures.rt:32:1
 returns : tie.Need-returns Inv-loop μ-loop
 returns c = c .before .loop .inv .1 ∙ ap (goodIn (c .before .before .before .args .file .now) (c .before .before .before .args .plan)) (le-antisymm (c .before .loop .inv .0) (c .loop-test .left))
 

@@ -1,20 +1,14 @@
-use native.Mathlib.Nat.{le-antisymm}
+use Prim.Native.Nat.{suc, ℕ, _+_, _*_, _-_, _≤_}
 use mathlib.Core.List.{List}
-use Prim.Native.Nat.{suc}
-use mathlib.Core.Path.{ap₂}
-use Rattle.rules.specs.Heard.{size}
-use Rattle.rules.specs.Record.{wordAt}
-use mathlib.Core.Path.{_≡_, refl, sym, ap, _∙_}
+use mathlib.Core.Path.{ap₂, _≡_, refl, sym, ap, _∙_}
+use native.Mathlib.Nat.{le-antisymm}
 use native.Mathlib.Omega.{arith}
 use borrow.Author.Needs.{needs}
-use Prim.Native.Nat.{ℕ, _+_, _*_, _/_, _-_, _≤_}
+use Rattle.rules.specs.Heard.{size}
+use Rattle.rules.specs.Record.{wordAt}
 use Rattle.file.specs.Figures.{lostIn}
 use Rattle.run.proofs.figures.lost_in.Statement.{statement}
 use Rattle.run.proofs.figures.lost_in.Tie as tie
-use Rattle.run.proofs.figures.lost_in.Reads as reads
-use Rattle.run.proofs.figures.lost_in.Lts as lts
-use Rattle.run.proofs.figures.ones.Reads as ones-reads
-use Rattle.run.proofs.sections.row_at.Reads as row-at-reads
 
 lost-more : (rows : List ℕ) (k lost here : ℕ) → lost ≡ lostIn rows k → here ≡ size (wordAt rows (k * 4)) → lost + here ≡ lostIn rows (k + 1)
 unfolding lostIn
@@ -28,43 +22,34 @@ Inv-loop rows n lost₀ k₀ lost k = (k ≤ n) × (lost ≡ lostIn rows k) × (
 abbrev μ-loop : tie.MeasureT-loop
 μ-loop rows n lost₀ k₀ lost k = n - k
 
--- src/figures.rt:55:5
 loop-holds : tie.Need-loop-holds Inv-loop μ-loop
 unfolding lostIn
 loop-holds c = (omega arith, refl, omega arith)
 
--- src/figures.rt:56:41
 mul-row-at : tie.Need-mul-row-at Inv-loop μ-loop
 mul-row-at c = omega arith
 
--- src/figures.rt:56:28
 row-at-requires : tie.Need-row-at-requires Inv-loop μ-loop
 row-at-requires c κs = omega arith
 
--- src/figures.rt:56:23
 ones-requires : tie.Need-ones-requires Inv-loop μ-loop
 ones-requires c κs = search needs
 
--- src/figures.rt:56:16
 add-lost : tie.Need-add-lost Inv-loop μ-loop
 add-lost c = omega (arith, c .before .before .before .loop .inv .2, c .ones .ensures .1)
 
--- src/figures.rt:57:13
 add-k : tie.Need-add-k Inv-loop μ-loop
 add-k c = omega arith
 
--- src/figures.rt:55:5
 loop-less : tie.Need-loop-less Inv-loop μ-loop
 loop-less c = omega arith
 
--- src/figures.rt:55:5
 loop-again : tie.Need-loop-again Inv-loop μ-loop
 loop-again c = let e = c .before .before .before .loop .inv in
     let k = c .before .before .before .loop .k in
     let rows = c .before .before .before .before .before .args .rows .now in
     (omega arith, lost-more rows k _ _ (e .1) (c .ones .ensures .0 ∙ ap size (c .before .row-at .ensures)), omega (arith, e .2, c .ones .ensures .1))
 
--- src/figures.rt:49:1
 returns : tie.Need-returns Inv-loop μ-loop
 returns c = c .before .loop .inv .1 ∙ ap (lostIn (c .before .before .before .args .rows .now)) (le-antisymm (c .before .loop .inv .0) (c .loop-test .left))
 

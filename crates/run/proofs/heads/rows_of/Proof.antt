@@ -1,40 +1,24 @@
-use Prim.Native.Nat.{ℕ, _*_, _≤_, _<_}
-use native.Mathlib.Nat.{mul-le-mul}
 use native.Mathlib.Omega.{arith}
 use borrow.Author.Needs.{needs}
+use Rattle.run.proofs.Parts.{place-small}
 use Rattle.run.proofs.heads.rows_of.Statement.{statement}
 use Rattle.run.proofs.heads.rows_of.Tie as tie
-use Rattle.run.proofs.heads.rows_of.Reads as reads
-use Rattle.run.proofs.heads.rows_of.Lts as lts
-use Rattle.run.proofs.sections.part.Reads as part-reads
 
--- a round's place is small
-product-small : (r n : ℕ) → r < 256 → n ≤ 32 → r * n ≤ 8192
-product-small r n a b =
-    let few : r ≤ 256 = omega arith in
-    mul-le-mul few b
-
--- src/heads.rt:124:30
 mul-from : tie.Need-mul-from
-mul-from c = record { fits = omega (arith, product-small (c .before .args .r) (c .before .args .plan .n) (c .before .pre .1) (c .before .pre .0 .heads)) }
+mul-from c = record { fits = omega (arith, place-small (c .before .args .r) (c .before .args .plan .n) (c .before .pre .1) (c .before .pre .0 .heads)) }
 
--- src/heads.rt:124:30
 mul-from-2 : tie.Need-mul-from-2
-mul-from-2 c = record { fits = omega (arith, product-small (c .before .args .r) (c .before .args .plan .n) (c .before .pre .1) (c .before .pre .0 .heads)) }
+mul-from-2 c = record { fits = omega (arith, place-small (c .before .args .r) (c .before .args .plan .n) (c .before .pre .1) (c .before .pre .0 .heads)) }
 
--- src/heads.rt:124:16
 add-from : tie.Need-add-from
-add-from c = record { fits = omega (arith, product-small (c .before .before .args .r) (c .before .before .args .plan .n) (c .before .before .pre .1) (c .before .before .pre .0 .heads), c .before .before .pre .0 .losses) }
+add-from c = record { fits = omega (arith, place-small (c .before .before .args .r) (c .before .before .args .plan .n) (c .before .before .pre .1) (c .before .before .pre .0 .heads), c .before .before .pre .0 .losses) }
 
--- src/heads.rt:125:22
 mul-part : tie.Need-mul-part
 mul-part c = search needs
 
--- src/heads.rt:125:5
 part-requires : tie.Need-part-requires
 part-requires c κs = search needs
 
--- src/heads.rt:119:1
 returns : tie.Need-returns
 returns c = search needs
 

@@ -1,36 +1,25 @@
 use borrow.Author.Needs.{needs}
 use Rattle.run.proofs.heads.started.Statement.{statement}
 use Rattle.run.proofs.heads.started.Tie as tie
-use Rattle.run.proofs.heads.started.Reads as reads
-use Rattle.run.proofs.heads.started.Lts as lts
-use Rattle.engine.proofs.start.Reads as start-reads
-use Rattle.run.proofs.sections.byte_at.Reads as byte-at-reads
 
--- src/heads.rt:40:34
 add-byte-at : tie.Need-add-byte-at
 add-byte-at c = search needs
 
--- src/heads.rt:40:9
 byte-at-requires : tie.Need-byte-at-requires
 byte-at-requires c κs = search needs
 
--- src/heads.rt:41:24
 cast-start : tie.Need-cast-start
 cast-start c = search needs
 
--- src/heads.rt:41:34
 cast-start-2 : tie.Need-cast-start-2
 cast-start-2 c = search needs
 
--- src/heads.rt:41:44
 cast-start-3 : tie.Need-cast-start-3
 cast-start-3 c = search needs
 
--- src/heads.rt:41:9
 start-requires : tie.Need-start-requires
 start-requires c κs = search needs
 
--- src/heads.rt:36:1
 returns : tie.Need-returns
 returns c = simp (c .before .start .ensures, c .before .before .byte-at .ensures)
 

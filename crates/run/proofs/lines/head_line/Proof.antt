@@ -1,90 +1,63 @@
-use mathlib.Core.Path.{_≡_, refl, sym, ap, ap₂, subst, _∙_}
-use Rattle.run.specs.Writing.{withWord, withAll}
-use Rattle.file.specs.Report.{headLine}
 use borrow.Author.Needs.{needs}
+use Rattle.file.specs.Report.{headLine}
+use Rattle.run.specs.Writing.{withAll}
 use Rattle.run.proofs.lines.head_line.Statement.{statement}
 use Rattle.run.proofs.lines.head_line.Tie as tie
-use Rattle.run.proofs.lines.head_line.Reads as reads
-use Rattle.run.proofs.lines.head_line.Lts as lts
-use Rattle.run.proofs.lines.with_decision.Reads as with-decision-reads
-use Rattle.run.proofs.lines.with_status.Reads as with-status-reads
-use Rattle.run.proofs.lines.with_value.Reads as with-value-reads
-use Rattle.run.proofs.text.with_number.Reads as with-number-reads
-use Rattle.run.proofs.text.with_word.Reads as with-word-reads
 
--- src/lines.rt:99:41
 slice-aggregate-with-word : tie.Need-slice-aggregate-with-word
 slice-aggregate-with-word c = search needs
 
--- src/lines.rt:99:25
 with-word-requires : tie.Need-with-word-requires
 with-word-requires c κs = search needs
 
--- src/lines.rt:99:9
 with-number-requires : tie.Need-with-number-requires
 with-number-requires c κs = search needs
 
--- src/lines.rt:100:38
 slice-aggregate-with-word-2 : tie.Need-slice-aggregate-with-word-2
 slice-aggregate-with-word-2 c = search needs
 
--- src/lines.rt:100:25
 with-word-requires-2 : tie.Need-with-word-requires-2
 with-word-requires-2 c κs = search needs
 
--- src/lines.rt:100:51
 cast-with-number : tie.Need-cast-with-number
 cast-with-number c = search needs
 
--- src/lines.rt:100:9
 with-number-requires-2 : tie.Need-with-number-requires-2
 with-number-requires-2 c κs = search needs
 
--- src/lines.rt:101:37
 slice-aggregate-with-word-3 : tie.Need-slice-aggregate-with-word-3
 slice-aggregate-with-word-3 c = search needs
 
--- src/lines.rt:101:24
 with-word-requires-3 : tie.Need-with-word-requires-3
 with-word-requires-3 c κs = search needs
 
--- src/lines.rt:101:9
 with-value-requires : tie.Need-with-value-requires
 with-value-requires c κs = search needs
 
--- src/lines.rt:102:38
 slice-aggregate-with-word-4 : tie.Need-slice-aggregate-with-word-4
 slice-aggregate-with-word-4 c = search needs
 
--- src/lines.rt:102:25
 with-word-requires-4 : tie.Need-with-word-requires-4
 with-word-requires-4 c κs = search needs
 
--- src/lines.rt:102:9
 with-status-requires : tie.Need-with-status-requires
 with-status-requires c κs = search needs
 
--- src/lines.rt:103:40
 slice-aggregate-with-word-5 : tie.Need-slice-aggregate-with-word-5
 slice-aggregate-with-word-5 c = search needs
 
--- src/lines.rt:103:27
 with-word-requires-5 : tie.Need-with-word-requires-5
 with-word-requires-5 c κs = search needs
 
--- src/lines.rt:103:9
 with-decision-requires : tie.Need-with-decision-requires
 with-decision-requires c κs = search needs
 
--- src/lines.rt:104:18
 slice-aggregate-with-word-6 : tie.Need-slice-aggregate-with-word-6
 slice-aggregate-with-word-6 c = search needs
 
--- src/lines.rt:104:5
 with-word-requires-6 : tie.Need-with-word-requires-6
 with-word-requires-6 c κs = search needs
 
--- src/lines.rt:91:1
 returns : tie.Need-returns
 unfolding headLine withAll
 returns c = (simp (c .with-word6 .ensures .0, c .before .before .with-decision .ensures .0, c .before .before .before .with-word5 .ensures .0, c .before .before .before .before .before .with-status .ensures .0, c .before .before .before .before .before .before .with-word4 .ensures .0, c .before .before .before .before .before .before .before .before .with-value .ensures .0, c .before .before .before .before .before .before .before .before .before .with-word3 .ensures .0, c .before .before .before .before .before .before .before .before .before .before .before .with-number2 .ensures .0, c .before .before .before .before .before .before .before .before .before .before .before .before .before .with-word2 .ensures .0, c .before .before .before .before .before .before .before .before .before .before .before .before .before .before .before .with-number .ensures .0, c .before .before .before .before .before .before .before .before .before .before .before .before .before .before .before .before .with-word .ensures .0), c .with-word6 .ensures .1)

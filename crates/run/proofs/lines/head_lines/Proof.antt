@@ -1,21 +1,16 @@
-use mathlib.Core.Path.{_≡_, refl, sym, ap, ap₂, subst, _∙_}
-use native.Mathlib.Omega.{arith}
-use Prim.Native.Nat.{ℕ, suc, _+_, _*_, _/_, _-_, _≤_, _<_}
-use borrow.Author.Needs.{needs}
-use Rattle.run.specs.Writing.{withWord, withAll}
-use native.Mathlib.Nat.{le-antisymm}
+use Prim.Native.Nat.{ℕ, suc, _+_, _-_, _≤_}
+use mathlib.Core.Path.{_≡_, refl, sym, ap, _∙_}
 use mathlib.Core.List.{List}
+use native.Mathlib.Omega.{arith}
+use native.Mathlib.Nat.{le-antisymm}
 use Rattle.rules.specs.declared.Head.{Head}
 use Rattle.file.specs.declared.Text.{Text}
 use Rattle.file.specs.Table.{headOf}
 use Rattle.file.specs.Report.{headLine, headLines}
-use Rattle.run.specs.Writing.{Held}
+use Rattle.run.specs.Writing.{withAll, Held}
 use Rattle.run.proofs.Texts.{all-append}
 use Rattle.run.proofs.lines.head_lines.Statement.{statement}
 use Rattle.run.proofs.lines.head_lines.Tie as tie
-use Rattle.run.proofs.lines.head_lines.Reads as reads
-use Rattle.run.proofs.lines.head_lines.Lts as lts
-use Rattle.run.proofs.lines.head_line.Reads as head-line-reads
 
 line-more : (text lines : Text) (heads : List Head) (s : ℕ) → lines ≡ withAll text (headLines s heads) → withAll lines (headLine s (headOf heads s)) ≡ withAll text (headLines (s + 1) heads)
 unfolding headLines
@@ -29,37 +24,29 @@ Inv-loop n heads lines₀ s₀ lines s = (s ≤ n) × (lines ≡ withAll lines�
 abbrev μ-loop : tie.MeasureT-loop
 μ-loop n heads lines₀ s₀ lines s = n - s
 
--- src/lines.rt:83:5
 loop-holds : tie.Need-loop-holds Inv-loop μ-loop
 unfolding headLines withAll
 loop-holds c = (omega arith, refl, c .pre .1)
 
--- src/lines.rt:84:17
 mul-h : tie.Need-mul-h Inv-loop μ-loop
 mul-h c = omega arith
 
--- src/lines.rt:84:17
 array-copy-out-h : tie.Need-array-copy-out-h Inv-loop μ-loop
 array-copy-out-h c = omega arith
 
--- src/lines.rt:85:9
 head-line-requires : tie.Need-head-line-requires Inv-loop μ-loop
 head-line-requires c κs = c .before .before .loop .inv .2
 
--- src/lines.rt:86:13
 add-s : tie.Need-add-s Inv-loop μ-loop
 add-s c = omega arith
 
--- src/lines.rt:83:5
 loop-less : tie.Need-loop-less Inv-loop μ-loop
 loop-less c = omega arith
 
--- src/lines.rt:83:5
 loop-again : tie.Need-loop-again Inv-loop μ-loop
 loop-again c = let e = c .before .before .before .loop .inv in
     (omega arith, c .head-line .ensures .0 ∙ line-more _ _ _ _ (e .1), c .head-line .ensures .1)
 
--- src/lines.rt:76:1
 returns : tie.Need-returns Inv-loop μ-loop
 returns c = let e = c .before .loop .inv in
     (e .1 ∙ ap (λ (k : ℕ). withAll (c .before .before .args .text) (headLines k (c .before .before .args .t2))) (le-antisymm (e .0) (c .loop-test .left)), e .2)

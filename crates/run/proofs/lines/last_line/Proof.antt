@@ -1,59 +1,42 @@
-use mathlib.Core.Path.{_≡_, refl, sym, ap, ap₂, subst, _∙_}
-use Rattle.run.specs.Writing.{withWord, withAll}
-use Rattle.file.specs.Report.{lastLine}
 use borrow.Author.Needs.{needs}
+use Rattle.file.specs.Report.{lastLine}
+use Rattle.run.specs.Writing.{withAll}
 use Rattle.run.proofs.lines.last_line.Statement.{statement}
 use Rattle.run.proofs.lines.last_line.Tie as tie
-use Rattle.run.proofs.lines.last_line.Reads as reads
-use Rattle.run.proofs.lines.last_line.Lts as lts
-use Rattle.run.proofs.text.with_number.Reads as with-number-reads
-use Rattle.run.proofs.text.with_word.Reads as with-word-reads
 
--- src/lines.rt:66:29
 slice-aggregate-with-word : tie.Need-slice-aggregate-with-word
 slice-aggregate-with-word c = search needs
 
--- src/lines.rt:66:9
 with-word-requires : tie.Need-with-word-requires
 with-word-requires c κs = search needs
 
--- src/lines.rt:67:9
 with-number-requires : tie.Need-with-number-requires
 with-number-requires c κs = search needs
 
--- src/lines.rt:68:26
 slice-aggregate-with-word-2 : tie.Need-slice-aggregate-with-word-2
 slice-aggregate-with-word-2 c = search needs
 
--- src/lines.rt:68:9
 with-word-requires-2 : tie.Need-with-word-requires-2
 with-word-requires-2 c κs = search needs
 
--- src/lines.rt:69:9
 with-number-requires-2 : tie.Need-with-number-requires-2
 with-number-requires-2 c κs = search needs
 
--- src/lines.rt:70:26
 slice-aggregate-with-word-3 : tie.Need-slice-aggregate-with-word-3
 slice-aggregate-with-word-3 c = search needs
 
--- src/lines.rt:70:9
 with-word-requires-3 : tie.Need-with-word-requires-3
 with-word-requires-3 c κs = search needs
 
--- src/lines.rt:71:9
 with-number-requires-3 : tie.Need-with-number-requires-3
 with-number-requires-3 c κs = search needs
 
--- src/lines.rt:72:18
 slice-aggregate-with-word-4 : tie.Need-slice-aggregate-with-word-4
 slice-aggregate-with-word-4 c = search needs
 
--- src/lines.rt:72:5
 with-word-requires-4 : tie.Need-with-word-requires-4
 with-word-requires-4 c κs = search needs
 
--- src/lines.rt:61:1
 returns : tie.Need-returns
 unfolding lastLine withAll
 returns c = (simp (c .with-word4 .ensures .0, c .before .before .with-number3 .ensures .0, c .before .before .before .with-word3 .ensures .0, c .before .before .before .before .before .with-number2 .ensures .0, c .before .before .before .before .before .before .with-word2 .ensures .0, c .before .before .before .before .before .before .before .before .with-number .ensures .0, c .before .before .before .before .before .before .before .before .before .with-word .ensures .0), c .with-word4 .ensures .1)

@@ -1,48 +1,32 @@
-use mathlib.Core.Path.{_≡_, refl, sym, ap, ap₂, subst, _∙_}
 use Prim.Native.Nat.{_≤_}
+use mathlib.Core.Path.{sym, subst}
+use borrow.Author.Needs.{needs}
 use Rattle.file.specs.declared.Benched.{Benched}
 use Rattle.run.proofs.Reports.{benched-few, refusal-is-report, lines-report}
-use borrow.Author.Needs.{needs}
 use Rattle.run.proofs.lines.report.Statement.{statement}
 use Rattle.run.proofs.lines.report.Tie as tie
-use Rattle.run.proofs.lines.report.Reads as reads
-use Rattle.run.proofs.lines.report.Lts as lts
-use Rattle.run.proofs.lines.first_line.Reads as first-line-reads
-use Rattle.run.proofs.lines.head_lines.Reads as head-lines-reads
-use Rattle.run.proofs.lines.last_line.Reads as last-line-reads
-use Rattle.run.proofs.lines.refusal_line.Reads as refusal-line-reads
-use Rattle.run.proofs.table.run_file.Reads as run-file-reads
-use Rattle.run.proofs.text.empty.Reads as empty-reads
 
--- src/lines.rt:22:9
 run-file-requires : tie.Need-run-file-requires
 run-file-requires c κs = search needs
 
--- src/lines.rt:24:9
 empty-requires : tie.Need-empty-requires
 empty-requires c κs = search needs
 
--- src/lines.rt:26:9
 refusal-line-requires : tie.Need-refusal-line-requires
 refusal-line-requires c κs = search needs
 
--- src/lines.rt:26:9
 returns : tie.Need-returns
 returns c = refusal-is-report _ (c .before .before .before .before .before .run-file .result) (c .before .before .before .before .before .run-file .ensures) _ _ (c .before .before .before .empty .ensures .0) (c .before .if1 .taken) (c .refusal-line .ensures .0)
 
--- src/lines.rt:30:20
 first-line-requires : tie.Need-first-line-requires
 first-line-requires c κs = search needs
 
--- src/lines.rt:30:9
 head-lines-requires : tie.Need-head-lines-requires
 head-lines-requires c κs = (subst (λ (d : Benched). d .outcome .n ≤ 32) (sym (c .before .before .before .before .before .before .run-file .ensures)) (benched-few _), c .first-line .ensures .1)
 
--- src/lines.rt:29:5
 last-line-requires : tie.Need-last-line-requires
 last-line-requires c κs = search needs
 
--- src/lines.rt:19:1
 returns-2 : tie.Need-returns-2
 returns-2 c = lines-report _ (c .before .before .before .before .before .before .before .before .run-file .result) (c .before .before .before .before .before .before .before .before .run-file .ensures) _ _ _ _ (c .before .before .before .before .before .before .empty .ensures .0) (c .before .before .before .before .if1 .left) (c .before .before .first-line .ensures .0) (c .before .head-lines .ensures .0) (c .last-line .ensures .0)
 

@@ -1,59 +1,44 @@
-use mathlib.Core.Path.{_≡_, refl, sym, ap, ap₂, subst, _∙_}
+use mathlib.Core.Path.{sym, ap, _∙_}
+use borrow.Author.Needs.{needs}
 use Rattle.rules.specs.declared.Decision.{Decision}
 use Rattle.file.specs.Report.{decisionWord}
 use Rattle.run.specs.Writing.{withWord}
-use borrow.Author.Needs.{needs}
 use Rattle.run.proofs.lines.with_decision.Statement.{statement}
 use Rattle.run.proofs.lines.with_decision.Tie as tie
-use Rattle.run.proofs.lines.with_decision.Reads as reads
-use Rattle.run.proofs.lines.with_decision.Lts as lts
-use Rattle.run.proofs.text.with_word.Reads as with-word-reads
 
--- src/lines.rt:136:43
 enum-told : tie.Need-enum-told
 enum-told c = search needs
 
--- src/lines.rt:136:43
 slice-aggregate-with-word : tie.Need-slice-aggregate-with-word
 slice-aggregate-with-word c = search needs
 
--- src/lines.rt:136:27
 with-word-requires : tie.Need-with-word-requires
 with-word-requires c κs = search needs
 
--- src/lines.rt:137:42
 enum-told-2 : tie.Need-enum-told-2
 enum-told-2 c = search needs
 
--- src/lines.rt:137:42
 slice-aggregate-with-word-2 : tie.Need-slice-aggregate-with-word-2
 slice-aggregate-with-word-2 c = search needs
 
--- src/lines.rt:137:26
 with-word-requires-2 : tie.Need-with-word-requires-2
 with-word-requires-2 c κs = search needs
 
--- src/lines.rt:138:48
 enum-told-3 : tie.Need-enum-told-3
 enum-told-3 c = search needs
 
--- src/lines.rt:138:48
 slice-aggregate-with-word-3 : tie.Need-slice-aggregate-with-word-3
 slice-aggregate-with-word-3 c = search needs
 
--- src/lines.rt:138:32
 with-word-requires-3 : tie.Need-with-word-requires-3
 with-word-requires-3 c κs = search needs
 
--- src/lines.rt:130:1
 returns : tie.Need-returns
 returns c = (c .with-word .ensures .0 ∙ sym (ap (λ (v : Decision). withWord (c .before .before .before .before .args .text) (decisionWord v)) (c .before .before .enum-told .given .1)), c .with-word .ensures .1)
 
--- src/lines.rt:130:1
 returns-2 : tie.Need-returns-2
 returns-2 c = (c .with-word2 .ensures .0 ∙ sym (ap (λ (v : Decision). withWord (c .before .before .before .before .args .text) (decisionWord v)) (c .before .before .enum-told2 .given .1)), c .with-word2 .ensures .1)
 
--- src/lines.rt:130:1
 returns-3 : tie.Need-returns-3
 returns-3 c = (c .with-word3 .ensures .0 ∙ sym (ap (λ (v : Decision). withWord (c .before .before .before .before .args .text) (decisionWord v)) (c .before .before .enum-told3 .given .1)), c .with-word3 .ensures .1)
 

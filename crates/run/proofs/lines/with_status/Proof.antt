@@ -1,43 +1,32 @@
-use mathlib.Core.Path.{_≡_, refl, sym, ap, ap₂, subst, _∙_}
+use mathlib.Core.Path.{sym, ap, _∙_}
+use borrow.Author.Needs.{needs}
 use Rattle.rules.specs.declared.Status.{Status}
 use Rattle.file.specs.Report.{statusWord}
 use Rattle.run.specs.Writing.{withWord}
-use borrow.Author.Needs.{needs}
 use Rattle.run.proofs.lines.with_status.Statement.{statement}
 use Rattle.run.proofs.lines.with_status.Tie as tie
-use Rattle.run.proofs.lines.with_status.Reads as reads
-use Rattle.run.proofs.lines.with_status.Lts as lts
-use Rattle.run.proofs.text.with_word.Reads as with-word-reads
 
--- src/lines.rt:125:46
 enum-told : tie.Need-enum-told
 enum-told c = search needs
 
--- src/lines.rt:125:46
 slice-aggregate-with-word : tie.Need-slice-aggregate-with-word
 slice-aggregate-with-word c = search needs
 
--- src/lines.rt:125:30
 with-word-requires : tie.Need-with-word-requires
 with-word-requires c κs = search needs
 
--- src/lines.rt:126:44
 enum-told-2 : tie.Need-enum-told-2
 enum-told-2 c = search needs
 
--- src/lines.rt:126:44
 slice-aggregate-with-word-2 : tie.Need-slice-aggregate-with-word-2
 slice-aggregate-with-word-2 c = search needs
 
--- src/lines.rt:126:28
 with-word-requires-2 : tie.Need-with-word-requires-2
 with-word-requires-2 c κs = search needs
 
--- src/lines.rt:119:1
 returns : tie.Need-returns
 returns c = (c .with-word .ensures .0 ∙ sym (ap (λ (v : Status). withWord (c .before .before .before .before .args .text) (statusWord v)) (c .before .before .enum-told .given .1)), c .with-word .ensures .1)
 
--- src/lines.rt:119:1
 returns-2 : tie.Need-returns-2
 returns-2 c = (c .with-word2 .ensures .0 ∙ sym (ap (λ (v : Status). withWord (c .before .before .before .before .args .text) (statusWord v)) (c .before .before .enum-told2 .given .1)), c .with-word2 .ensures .1)
 

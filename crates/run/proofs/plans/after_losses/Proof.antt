@@ -1,56 +1,38 @@
-use mathlib.Core.Path.{_≡_, refl, sym, ap, ap₂, subst, _∙_}
+use mathlib.Core.Path.{sym, _∙_}
 use native.Mathlib.Omega.{arith}
-use Prim.Native.Nat.{ℕ, suc, _+_, _*_, _/_, _-_, _≤_, _<_}
-use Rattle.file.specs.declared.Section.the-variants.{Body}
-use Rattle.file.specs.declared.Section.{Section}
-use Rattle.file.specs.declared.Plan.{Plan}
-use Rattle.run.proofs.Planning.{refused-section, next-section}
 use native.Mathlib.Nat.{mul-le-mul}
-use Rattle.file.specs.Plan.{taken, afterLosses}
-use Rattle.file.proofs.Sections.{Coins, coins-body}
 use borrow.Author.Needs.{needs}
+use Rattle.file.specs.Plan.{afterLosses}
+use Rattle.file.proofs.Sections.{coins-body}
+use Rattle.run.proofs.Planning.{refused-section, next-section}
 use Rattle.run.proofs.plans.after_losses.Statement.{statement}
 use Rattle.run.proofs.plans.after_losses.Tie as tie
-use Rattle.run.proofs.plans.after_losses.Reads as reads
-use Rattle.run.proofs.plans.after_losses.Lts as lts
-use Rattle.run.proofs.plans.closed.Reads as closed-reads
-use Rattle.run.proofs.plans.refused_by.Reads as refused-by-reads
-use Rattle.run.proofs.sections.coins.Reads as coins-reads
 
--- src/plans.rt:63:35
 mul-coins : tie.Need-mul-coins
 mul-coins c = record { fits = omega (arith, mul-le-mul (c .before .pre .2) (c .before .pre .1)) }
 
--- src/plans.rt:63:9
 coins-requires : tie.Need-coins-requires
 coins-requires c κs = (omega (arith, c .before .pre .0), omega (arith, mul-le-mul (c .before .pre .2) (c .before .pre .1)))
 
--- src/plans.rt:64:25
 enum-known-section : tie.Need-enum-known-section
 enum-known-section c = search needs
 
--- src/plans.rt:65:9
 enum-told : tie.Need-enum-told
 enum-told c = search needs
 
--- src/plans.rt:65:9
 refused-by-requires : tie.Need-refused-by-requires
 refused-by-requires c κs = search needs
 
--- src/plans.rt:65:9
 returns : tie.Need-returns
 unfolding afterLosses
 returns c = refused-section _ _ _ _ _ _ _ (c .refused-by .ensures) (c .before .enum-told .given .1) (c .before .before .before .coins .ensures)
 
--- src/plans.rt:76:30
 add-closed : tie.Need-add-closed
 add-closed c = let a = coins-body (c .before .before .before .before .before .args .file .now) _ _ _ _ (sym (c .before .before .before .coins .ensures) ∙ c .before .section .given .1) in record { fits = omega (arith, a .starts, a .sized, c .before .before .before .before .before .pre .0, mul-le-mul (c .before .before .before .before .before .pre .2) (c .before .before .before .before .before .pre .1)) }
 
--- src/plans.rt:76:5
 closed-requires : tie.Need-closed-requires
 closed-requires c κs = search needs
 
--- src/plans.rt:51:1
 returns-2 : tie.Need-returns-2
 unfolding afterLosses
 returns-2 c = c .closed .ensures ∙ next-section _ _ _ _ _ (c .before .before .section .given .1) (c .before .before .before .before .coins .ensures)

@@ -1,58 +1,39 @@
+use Prim.Native.Nat.{ℕ, _+_}
+use mathlib.Core.Path.{sym, ap, _∙_}
 use native.Mathlib.Nat.{mul-le-mul}
-use Rattle.file.specs.Plan.{afterLosses}
-use mathlib.Core.Path.{_≡_, refl, sym, ap, ap₂, subst, _∙_}
 use native.Mathlib.Omega.{arith}
-use Prim.Native.Nat.{ℕ, suc, _+_, _*_, _/_, _-_, _≤_, _<_}
-use Rattle.file.specs.declared.Section.the-variants.{Body}
-use Rattle.file.specs.declared.Section.{Section}
-use Rattle.file.specs.declared.Plan.{Plan}
-use Rattle.run.proofs.Planning.{refused-section, next-section}
-use Rattle.file.specs.Plan.{taken, afterNeeded}
-use Rattle.file.proofs.Sections.{Losses, losses-body}
 use borrow.Author.Needs.{needs}
+use Rattle.file.specs.Plan.{afterLosses, afterNeeded}
+use Rattle.file.proofs.Sections.{losses-body}
+use Rattle.run.proofs.Planning.{refused-section, next-section}
 use Rattle.run.proofs.plans.after_needed.Statement.{statement}
 use Rattle.run.proofs.plans.after_needed.Tie as tie
-use Rattle.run.proofs.plans.after_needed.Reads as reads
-use Rattle.run.proofs.plans.after_needed.Lts as lts
-use Rattle.run.proofs.plans.after_losses.Reads as after-losses-reads
-use Rattle.run.proofs.plans.refused_by.Reads as refused-by-reads
-use Rattle.run.proofs.sections.count_at.Reads as count-at-reads
-use Rattle.run.proofs.sections.losses.Reads as losses-reads
 
--- src/plans.rt:43:9
 losses-requires : tie.Need-losses-requires
 losses-requires c κs = search needs
 
--- src/plans.rt:44:25
 enum-known-section : tie.Need-enum-known-section
 enum-known-section c = search needs
 
--- src/plans.rt:45:9
 enum-told : tie.Need-enum-told
 enum-told c = search needs
 
--- src/plans.rt:45:9
 refused-by-requires : tie.Need-refused-by-requires
 refused-by-requires c κs = search needs
 
--- src/plans.rt:45:9
 returns : tie.Need-returns
 unfolding afterNeeded
 returns c = refused-section _ _ _ _ _ _ _ (c .refused-by .ensures) (c .before .enum-told .given .1) (c .before .before .before .losses .ensures)
 
--- src/plans.rt:47:9
 count-at-requires : tie.Need-count-at-requires
 count-at-requires c κs = search needs
 
--- src/plans.rt:48:30
 add-after-losses : tie.Need-add-after-losses
 add-after-losses c = let a = losses-body (c .before .before .before .before .before .before .args .file .now) _ _ _ _ (sym (c .before .before .before .before .losses .ensures) ∙ c .before .before .section .given .1) in record { fits = omega (arith, a .starts, a .sized, c .before .before .before .before .before .before .pre .0, mul-le-mul (a .rounds) (c .before .before .before .before .before .before .pre .1)) }
 
--- src/plans.rt:48:5
 after-losses-requires : tie.Need-after-losses-requires
 after-losses-requires c κs = let a = losses-body (c .before .before .before .before .before .before .args .file .now) _ _ _ _ (sym (c .before .before .before .before .losses .ensures) ∙ c .before .before .section .given .1) in (omega (arith, a .starts, a .sized, c .before .before .before .before .before .before .pre .0, mul-le-mul (a .rounds) (c .before .before .before .before .before .before .pre .1)), c .before .before .before .before .before .before .pre .1, omega (arith, a .rounds, c .count-at .ensures .0))
 
--- src/plans.rt:39:1
 returns-2 : tie.Need-returns-2
 unfolding afterNeeded
 returns-2 c = c .after-losses .ensures ∙ ap (λ (rounds : ℕ). afterLosses (c .before .before .before .before .before .before .before .args .file .now) (c .before .before .before .before .before .before .before .args .room) (c .before .before .before .section .given .0 .0 + c .before .before .before .section .given .0 .1 .0) (c .before .before .before .before .before .before .before .args .n) (c .before .before .before .before .before .before .before .args .k) rounds (c .before .before .before .section .given .0 .0)) (c .before .count-at .ensures .0) ∙ next-section _ _ _ _ _ (c .before .before .before .section .given .1) (c .before .before .before .before .before .losses .ensures)

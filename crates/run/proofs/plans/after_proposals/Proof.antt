@@ -1,61 +1,41 @@
-use Rattle.file.specs.Plan.{afterNeeded}
-use mathlib.Core.Path.{_≡_, refl, sym, ap, ap₂, subst, _∙_}
+use Prim.Native.Nat.{ℕ, _+_}
+use mathlib.Core.Path.{sym, ap, _∙_}
 use native.Mathlib.Omega.{arith}
-use Prim.Native.Nat.{ℕ, suc, _+_, _*_, _/_, _-_, _≤_, _<_}
-use Rattle.file.specs.declared.Section.the-variants.{Body}
-use Rattle.file.specs.declared.Section.{Section}
-use Rattle.file.specs.declared.Plan.{Plan}
-use Rattle.run.proofs.Planning.{refused-section, next-section}
-use Rattle.file.specs.Plan.{taken, afterProposals}
-use Rattle.file.proofs.Sections.{Needed, needed-body}
 use borrow.Author.Needs.{needs}
+use Rattle.file.specs.Plan.{afterNeeded, afterProposals}
+use Rattle.file.proofs.Sections.{needed-body}
+use Rattle.run.proofs.Planning.{refused-section, next-section}
 use Rattle.run.proofs.plans.after_proposals.Statement.{statement}
 use Rattle.run.proofs.plans.after_proposals.Tie as tie
-use Rattle.run.proofs.plans.after_proposals.Reads as reads
-use Rattle.run.proofs.plans.after_proposals.Lts as lts
-use Rattle.run.proofs.plans.after_needed.Reads as after-needed-reads
-use Rattle.run.proofs.plans.refused_by.Reads as refused-by-reads
-use Rattle.run.proofs.sections.byte_at.Reads as byte-at-reads
-use Rattle.run.proofs.sections.needed.Reads as needed-reads
 
--- src/plans.rt:31:9
 needed-requires : tie.Need-needed-requires
 needed-requires c κs = search needs
 
--- src/plans.rt:32:25
 enum-known-section : tie.Need-enum-known-section
 enum-known-section c = search needs
 
--- src/plans.rt:33:9
 enum-told : tie.Need-enum-told
 enum-told c = search needs
 
--- src/plans.rt:33:9
 refused-by-requires : tie.Need-refused-by-requires
 refused-by-requires c κs = search needs
 
--- src/plans.rt:33:9
 returns : tie.Need-returns
 unfolding afterProposals
 returns c = refused-section _ _ _ _ _ _ _ (c .refused-by .ensures) (c .before .enum-told .given .1) (c .before .before .before .needed .ensures)
 
--- src/plans.rt:35:13
 byte-at-requires : tie.Need-byte-at-requires
 byte-at-requires c κs = search needs
 
--- src/plans.rt:35:13
 cast-k : tie.Need-cast-k
 cast-k c = search needs
 
--- src/plans.rt:36:30
 add-after-needed : tie.Need-add-after-needed
 add-after-needed c = let a = needed-body (c .before .before .before .before .before .before .args .file .now) _ _ _ _ (sym (c .before .before .before .before .needed .ensures) ∙ c .before .before .section .given .1) in record { fits = omega (arith, a .starts, a .single, c .before .before .before .before .before .before .pre .0) }
 
--- src/plans.rt:36:5
 after-needed-requires : tie.Need-after-needed-requires
 after-needed-requires c κs = let a = needed-body (c .before .before .before .before .before .before .args .file .now) _ _ _ _ (sym (c .before .before .before .before .needed .ensures) ∙ c .before .before .section .given .1) in (omega (arith, a .starts, a .single, c .before .before .before .before .before .before .pre .0), c .before .before .before .before .before .before .pre .1)
 
--- src/plans.rt:27:1
 returns-2 : tie.Need-returns-2
 unfolding afterProposals
 returns-2 c = c .after-needed .ensures ∙ ap (λ (k : ℕ). afterNeeded (c .before .before .before .before .before .before .before .args .file .now) (c .before .before .before .before .before .before .before .args .room) (c .before .before .before .section .given .0 .0 + c .before .before .before .section .given .0 .1 .0) (c .before .before .before .before .before .before .before .args .n) k) (c .before .byte-at .ensures) ∙ next-section _ _ _ _ _ (c .before .before .before .section .given .1) (c .before .before .before .before .before .needed .ensures)

@@ -1,31 +1,22 @@
 use borrow.Author.Needs.{needs}
 use Rattle.run.proofs.plans.refused_by.Statement.{statement}
 use Rattle.run.proofs.plans.refused_by.Tie as tie
-use Rattle.run.proofs.plans.refused_by.Reads as reads
-use Rattle.run.proofs.plans.refused_by.Lts as lts
-use Rattle.run.proofs.plans.refused.Reads as refused-reads
 
--- src/plans.rt:80:28
 enum-known-section : tie.Need-enum-known-section
 enum-known-section c = search needs
 
--- src/plans.rt:81:9
 enum-told : tie.Need-enum-told
 enum-told c = search needs
 
--- src/plans.rt:81:9
 refused-requires : tie.Need-refused-requires
 refused-requires c κs = search needs
 
--- src/plans.rt:81:9
 returns : tie.Need-returns
 returns c = search (needs, c .before .enum-told .given .1)
 
--- src/plans.rt:83:5
 refused-requires-2 : tie.Need-refused-requires-2
 refused-requires-2 c κs = search needs
 
--- src/plans.rt:77:1
 returns-2 : tie.Need-returns-2
 returns-2 c = simp (c .before .before .section .given .1, c .refused2 .ensures)
 

@@ -1,31 +1,22 @@
 use borrow.Author.Needs.{needs}
 use Rattle.run.proofs.sections.body.Statement.{statement}
 use Rattle.run.proofs.sections.body.Tie as tie
-use Rattle.run.proofs.sections.body.Reads as reads
-use Rattle.run.proofs.sections.body.Lts as lts
-use Rattle.run.proofs.sections.part.Reads as part-reads
 
--- src/sections.rt:56:25
 enum-known-section : tie.Need-enum-known-section
 enum-known-section c = search needs
 
--- src/sections.rt:57:9
 enum-told : tie.Need-enum-told
 enum-told c = search needs
 
--- src/sections.rt:57:9
 part-requires : tie.Need-part-requires
 part-requires c κs = search needs
 
--- src/sections.rt:57:9
 returns : tie.Need-returns
 returns c = search needs
 
--- src/sections.rt:59:5
 part-requires-2 : tie.Need-part-requires-2
 part-requires-2 c κs = search needs
 
--- src/sections.rt:53:1
 returns-2 : tie.Need-returns-2
 returns-2 c = simp (c .before .before .section .given .1, c .part2 .ensures)
 

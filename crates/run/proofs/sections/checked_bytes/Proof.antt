@@ -1,34 +1,25 @@
-use native.Mathlib.Omega.{arith}
-use Prim.Native.Nat.{ℕ, suc, _+_, _*_, _/_, _-_, _≤_, _<_}
-use mathlib.Core.Path.{_≡_, refl, sym, ap, ap₂, subst, _∙_}
-use lib.Dec.{lit≤}
+use Prim.Native.Nat.{ℕ, _/_, _≤_}
+use mathlib.Core.Path.{_≡_, sym, ap, subst, _∙_}
 use mathlib.Core.List.{List}
+use native.Mathlib.Omega.{arith}
+use lib.Dec.{lit≤}
 use lib.ListN.{length}
+use borrow.Author.Needs.{needs}
 use Rattle.file.specs.Section.{unlessBroken}
 use Rattle.run.proofs.Parts.{near-short}
 use Rattle.run.proofs.Checking.{checked-is, by-one, found-small}
-use borrow.Author.Needs.{needs}
 use Rattle.run.proofs.sections.checked_bytes.Statement.{statement}
 use Rattle.run.proofs.sections.checked_bytes.Tie as tie
-use Rattle.run.proofs.sections.checked_bytes.Reads as reads
-use Rattle.run.proofs.sections.checked_bytes.Lts as lts
-use Rattle.run.proofs.sections.body.Reads as body-reads
-use Rattle.run.proofs.sections.first_outside.Reads as first-outside-reads
-use Rattle.run.proofs.sections.unless_broken.Reads as unless-broken-reads
 
--- src/sections.rt:138:9
 body-requires : tie.Need-body-requires
 body-requires c κs = search needs
 
--- src/sections.rt:139:9
 first-outside-requires : tie.Need-first-outside-requires
 first-outside-requires c κs = search needs
 
--- src/sections.rt:140:5
 unless-broken-requires : tie.Need-unless-broken-requires
 unless-broken-requires c κs = (c .before .before .before .pre, found-small _ _ _ (c .first-outside .ensures) (subst (λ (l : List ℕ). length l ≤ 8388480) (sym (c .before .body .ensures)) (near-short (c .before .before .before .args .file .now) (c .before .before .before .args .section) (c .before .before .before .pre))), lit≤ tt)
 
--- src/sections.rt:134:1
 returns : tie.Need-returns
 returns c = let bytes = c .before .before .body .result .now in
     let all : length bytes ≡ length bytes / 1 = omega arith in

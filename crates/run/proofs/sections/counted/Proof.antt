@@ -1,44 +1,34 @@
-use borrow.Author.Tests.{lt-ltb, le-ltb}
 use native.Mathlib.Omega.{arith}
-use Rattle.file.specs.Section.{counted}
+use borrow.Author.Tests.{lt-ltb, le-ltb}
 use borrow.Author.Needs.{needs}
+use Rattle.file.specs.Section.{counted}
 use Rattle.run.proofs.sections.counted.Statement.{statement}
 use Rattle.run.proofs.sections.counted.Tie as tie
-use Rattle.run.proofs.sections.counted.Reads as reads
-use Rattle.run.proofs.sections.counted.Lts as lts
 
--- src/sections.rt:108:14
 add-if1 : tie.Need-add-if1
 add-if1 c = search needs
 
--- src/sections.rt:109:9
 returns : tie.Need-returns
 unfolding counted
 returns c = (simp (lt-ltb _ _ (c .if1 .taken)), tt)
 
--- src/sections.rt:115:9
 returns-2 : tie.Need-returns-2
 unfolding counted
 returns-2 c = (simp (le-ltb _ _ (c .before .if1 .left), c .if2 .taken), tt)
 
--- src/sections.rt:120:14
 add-if3 : tie.Need-add-if3
 add-if3 c = search needs
 
--- src/sections.rt:120:14
 add-if3-2 : tie.Need-add-if3-2
 add-if3-2 c = search needs
 
--- src/sections.rt:121:9
 returns-3 : tie.Need-returns-3
 unfolding counted
 returns-3 c = (simp (le-ltb _ _ (c .before .before .if1 .left), c .before .if2 .left, lt-ltb _ _ (c .if3 .taken)), tt)
 
--- src/sections.rt:127:16
 add-t6 : tie.Need-add-t6
 add-t6 c = search needs
 
--- src/sections.rt:102:1
 returns-4 : tie.Need-returns-4
 unfolding counted
 returns-4 c = (simp (le-ltb _ _ (c .before .before .if1 .left), c .before .if2 .left, le-ltb _ _ (c .if3 .left)), (omega arith, omega arith))

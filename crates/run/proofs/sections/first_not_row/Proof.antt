@@ -1,17 +1,13 @@
+use Prim.Native.Nat.{ℕ, _*_, _-_, _≤_}
 use mathlib.Core.Bool.{not}
-use Rattle.rules.specs.Heard.{within}
+use mathlib.Core.Path.{sym, ap, _∙_}
 use native.Mathlib.Omega.{arith}
 use borrow.Author.Needs.{needs}
-use Prim.Native.Nat.{ℕ, _+_, _*_, _/_, _-_, _≤_}
-use mathlib.Core.Path.{_≡_, refl, sym, ap, _∙_}
+use Rattle.rules.specs.Heard.{within}
 use Rattle.rules.proofs.Below.{NoneBefore, none-more, search-starts, search-finds, search-ends}
 use Rattle.file.specs.Section.{notRow}
 use Rattle.run.proofs.sections.first_not_row.Statement.{statement}
 use Rattle.run.proofs.sections.first_not_row.Tie as tie
-use Rattle.run.proofs.sections.first_not_row.Reads as reads
-use Rattle.run.proofs.sections.first_not_row.Lts as lts
-use Rattle.run.proofs.sections.not_row.Reads as not-row-reads
-use Rattle.run.proofs.sections.row_at.Reads as row-at-reads
 
 abbrev Inv-loop : tie.InvT-loop
 Inv-loop rows n count i₀ i = (i ≤ count) × NoneBefore i (λ j. notRow n rows (j * 4))
@@ -19,39 +15,30 @@ Inv-loop rows n count i₀ i = (i ≤ count) × NoneBefore i (λ j. notRow n row
 abbrev μ-loop : tie.MeasureT-loop
 μ-loop rows n count i₀ i = count - i
 
--- src/sections.rt:190:5
 loop-holds : tie.Need-loop-holds Inv-loop μ-loop
 loop-holds c = (omega arith, search-starts _)
 
--- src/sections.rt:191:33
 mul-row-at : tie.Need-mul-row-at Inv-loop μ-loop
 mul-row-at c = omega arith
 
--- src/sections.rt:191:20
 row-at-requires : tie.Need-row-at-requires Inv-loop μ-loop
 row-at-requires c κs = omega arith
 
--- src/sections.rt:191:12
 not-row-requires : tie.Need-not-row-requires Inv-loop μ-loop
 not-row-requires c κs = search needs
 
--- src/sections.rt:192:13
 returns : tie.Need-returns Inv-loop μ-loop
 returns c = search-finds _ _ _ (c .before .before .before .before .loop .inv .1) (sym (c .before .not-row .ensures ∙ ap (λ (row : ℕ). not (within (c .before .before .before .before .before .before .args .n) row)) (c .before .before .row-at .ensures)) ∙ c .if1 .taken) (c .before .before .before .loop-test .taken)
 
--- src/sections.rt:194:9
 add-i : tie.Need-add-i Inv-loop μ-loop
 add-i c = omega arith
 
--- src/sections.rt:190:5
 loop-less : tie.Need-loop-less Inv-loop μ-loop
 loop-less c = omega arith
 
--- src/sections.rt:190:5
 loop-again : tie.Need-loop-again Inv-loop μ-loop
 loop-again c = (omega arith, none-more (c .before .before .before .before .loop .inv .1) (sym (c .before .not-row .ensures ∙ ap (λ (row : ℕ). not (within (c .before .before .before .before .before .before .args .n) row)) (c .before .before .row-at .ensures)) ∙ c .if1 .left))
 
--- src/sections.rt:184:1
 returns-2 : tie.Need-returns-2 Inv-loop μ-loop
 returns-2 c = search-ends _ _ _ (c .before .loop .inv .1) (c .before .loop .inv .0) (c .loop-test .left)
 

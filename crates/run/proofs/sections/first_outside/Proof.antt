@@ -1,15 +1,12 @@
+use Prim.Native.Nat.{_-_, _≤_}
+use mathlib.Core.Path.{sym, _∙_}
 use native.Mathlib.Omega.{arith}
-use borrow.Author.Needs.{needs}
-use Prim.Native.Nat.{ℕ, suc, _+_, _*_, _/_, _-_, _≤_, _<_}
-use mathlib.Core.Path.{_≡_, refl, sym, ap, ap₂, subst, _∙_}
 use lib.ListN.{length}
+use borrow.Author.Needs.{needs}
 use Rattle.rules.proofs.Below.{NoneBefore, none-more, search-starts, search-finds, search-ends}
 use Rattle.run.specs.Survey.{outside}
 use Rattle.run.proofs.sections.first_outside.Statement.{statement}
 use Rattle.run.proofs.sections.first_outside.Tie as tie
-use Rattle.run.proofs.sections.first_outside.Reads as reads
-use Rattle.run.proofs.sections.first_outside.Lts as lts
-use Rattle.run.proofs.sections.is_outside.Reads as is-outside-reads
 
 abbrev Inv-loop : tie.InvT-loop
 Inv-loop bytes low high i₀ i = (i ≤ length bytes) × NoneBefore i (outside low high bytes)
@@ -17,35 +14,27 @@ Inv-loop bytes low high i₀ i = (i ≤ length bytes) × NoneBefore i (outside l
 abbrev μ-loop : tie.MeasureT-loop
 μ-loop bytes low high i₀ i = length bytes - i
 
--- src/sections.rt:174:5
 loop-holds : tie.Need-loop-holds Inv-loop μ-loop
 loop-holds c = (omega arith, search-starts _)
 
--- src/sections.rt:175:23
 shared-slice-read-is-outside : tie.Need-shared-slice-read-is-outside Inv-loop μ-loop
 shared-slice-read-is-outside c = search needs
 
--- src/sections.rt:175:12
 is-outside-requires : tie.Need-is-outside-requires Inv-loop μ-loop
 is-outside-requires c κs = search needs
 
--- src/sections.rt:176:13
 returns : tie.Need-returns Inv-loop μ-loop
 returns c = search-finds _ _ _ (c .before .before .before .before .loop .inv .1) (sym (c .before .is-outside .ensures) ∙ c .if1 .taken) (c .before .before .before .loop-test .taken)
 
--- src/sections.rt:178:9
 add-i : tie.Need-add-i Inv-loop μ-loop
 add-i c = omega arith
 
--- src/sections.rt:174:5
 loop-less : tie.Need-loop-less Inv-loop μ-loop
 loop-less c = omega arith
 
--- src/sections.rt:174:5
 loop-again : tie.Need-loop-again Inv-loop μ-loop
 loop-again c = (omega arith, none-more (c .before .before .before .before .loop .inv .1) (sym (c .before .is-outside .ensures) ∙ c .if1 .left))
 
--- src/sections.rt:170:1
 returns-2 : tie.Need-returns-2 Inv-loop μ-loop
 returns-2 c = search-ends _ _ _ (c .before .loop .inv .1) (c .before .loop .inv .0) (c .loop-test .left)
 

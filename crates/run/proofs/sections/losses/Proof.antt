@@ -1,39 +1,28 @@
+use Prim.Native.Nat.{ℕ, _*_}
+use mathlib.Core.Path.{ap, _∙_}
 use native.Mathlib.Nat.{mul-le-mul}
-use lib.Dec.{ltb}
-use Rattle.file.specs.Section.{counted, checked, notRow, lossesOf}
 use native.Mathlib.Omega.{arith}
-use Prim.Native.Nat.{ℕ, suc, _+_, _*_, _/_, _-_, _≤_, _<_}
-use mathlib.Core.Path.{_≡_, refl, sym, ap, ap₂, subst, _∙_}
+use lib.Dec.{ltb}
 use borrow.Author.Needs.{needs}
+use Rattle.file.specs.Section.{counted, checked, notRow, lossesOf}
 use Rattle.run.proofs.sections.losses.Statement.{statement}
 use Rattle.run.proofs.sections.losses.Tie as tie
-use Rattle.run.proofs.sections.losses.Reads as reads
-use Rattle.run.proofs.sections.losses.Lts as lts
-use Rattle.run.proofs.sections.checked_rows.Reads as checked-rows-reads
-use Rattle.run.proofs.sections.count_at.Reads as count-at-reads
-use Rattle.run.proofs.sections.counted.Reads as counted-reads
 
--- src/sections.rt:40:9
 count-at-requires : tie.Need-count-at-requires
 count-at-requires c κs = search needs
 
--- src/sections.rt:41:56
 mul-counted : tie.Need-mul-counted
 mul-counted c = record { fits = omega (arith, mul-le-mul (c .count-at .ensures .1) (c .before .before .pre .1)) }
 
--- src/sections.rt:41:56
 mul-counted-2 : tie.Need-mul-counted-2
 mul-counted-2 c = record { fits = omega (arith, mul-le-mul (c .count-at .ensures .1) (c .before .before .pre .1)) }
 
--- src/sections.rt:41:24
 counted-requires : tie.Need-counted-requires
 counted-requires c κs = (c .before .before .pre .0, omega (arith, mul-le-mul (c .count-at .ensures .1) (c .before .before .pre .1)))
 
--- src/sections.rt:41:5
 checked-rows-requires : tie.Need-checked-rows-requires
 checked-rows-requires c κs = search needs
 
--- src/sections.rt:36:1
 returns : tie.Need-returns
 unfolding lossesOf
 returns c = let file = c .before .before .before .before .args .file .now in

@@ -1,40 +1,29 @@
-use Rattle.run.proofs.Parts.{part-is}
 use borrow.Author.Needs.{needs}
+use Rattle.run.proofs.Parts.{part-is}
 use Rattle.run.proofs.sections.part.Statement.{statement}
 use Rattle.run.proofs.sections.part.Tie as tie
-use Rattle.run.proofs.sections.part.Reads as reads
-use Rattle.run.proofs.sections.part.Lts as lts
-use Rattle.run.proofs.sections.least.Reads as least-reads
 
--- src/sections.rt:66:9
 least-requires : tie.Need-least-requires
 least-requires c κs = search needs
 
--- src/sections.rt:67:30
 sub-least : tie.Need-sub-least
 sub-least c = search needs
 
--- src/sections.rt:67:9
 least-requires-2 : tie.Need-least-requires-2
 least-requires-2 c κs = search needs
 
--- src/sections.rt:68:15
 add-end : tie.Need-add-end
 add-end c = search needs
 
--- src/sections.rt:69:5
 sub-result : tie.Need-sub-result
 sub-result c = search needs
 
--- src/sections.rt:69:5
 part-result-start : tie.Need-part-result-start
 part-result-start c = search needs
 
--- src/sections.rt:69:5
 part-result-end : tie.Need-part-result-end
 part-result-end c = search needs
 
--- src/sections.rt:63:1
 returns : tie.Need-returns
 returns c = part-is (c .before .before .before .before .args .start) (c .before .before .before .before .args .length) (c .before .before .least .result) (c .before .least2 .result) (c .before .before .before .before .args .file .now) (c .before .before .least .ensures .0) (c .before .least2 .ensures .0)
 

@@ -1,17 +1,13 @@
 use Prim.Native.Nat.{ℕ, _<_, _^_}
+use mathlib.Core.Path.{_≡_, ap, _∙_}
 use native.Mathlib.Omega.{arith}
+use borrow.Author.Needs.{needs}
 use Rattle.io.specs.Digits.{digits, Fewest}
 use Rattle.file.specs.Report.{decimal}
 use Rattle.file.proofs.Decimals.{places-is}
-use mathlib.Core.Path.{_≡_, refl, sym, ap, ap₂, subst, _∙_}
-use Rattle.run.specs.Writing.{withWord, withAll}
-use borrow.Author.Needs.{needs}
+use Rattle.run.specs.Writing.{withWord}
 use Rattle.run.proofs.text.with_number.Statement.{statement}
 use Rattle.run.proofs.text.with_number.Tie as tie
-use Rattle.run.proofs.text.with_number.Reads as reads
-use Rattle.run.proofs.text.with_number.Lts as lts
-use Rattle.io.proofs.decimal.Reads as decimal-reads
-use Rattle.run.proofs.text.with_word.Reads as with-word-reads
 
 digits-are : (n k : ℕ) → Fewest 10 1 n k → n < 10 ^ 20 → digits 10 k n ≡ decimal n
 unfolding decimal
@@ -20,23 +16,18 @@ digits-are n k fewest small = ap (λ (j : ℕ). digits 10 j n) (places-is n k fe
 small-number : {n : ℕ} → n < 2 ^ 64 → n < 10 ^ 20
 small-number h = omega arith
 
--- src/text.rt:26:9
 decimal-requires : tie.Need-decimal-requires
 decimal-requires c κs = search needs
 
--- src/text.rt:27:21
 array-share-prefix-digits : tie.Need-array-share-prefix-digits
 array-share-prefix-digits c = search needs
 
--- src/text.rt:27:21
 slice-aggregate-with-word : tie.Need-slice-aggregate-with-word
 slice-aggregate-with-word c = search needs
 
--- src/text.rt:27:5
 with-word-requires : tie.Need-with-word-requires
 with-word-requires c κs = search needs
 
--- src/text.rt:20:1
 returns : tie.Need-returns
 returns c = let d = c .before .before .decimal .ensures in
     let n = c .before .before .before .before .args .number in

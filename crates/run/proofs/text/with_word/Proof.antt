@@ -1,18 +1,15 @@
-use native.Mathlib.Nat.{le-antisymm}
+use Prim.Native.Nat.{ℕ, suc, _+_, _-_, _≤_, _<_}
 use mathlib.Core.List.{List}
+use mathlib.Core.Path.{_≡_, sym, ap, subst, _∙_}
+use native.Mathlib.Nat.{le-antisymm}
+use native.Mathlib.Omega.{arith}
 use lib.ListN.{length, set, getD}
+use lib.Seq.{paste, paste-zero, paste-suc}
+use borrow.Author.Needs.{needs}
 use Rattle.run.specs.Writing.{Held}
 use Rattle.run.proofs.Texts.{word-held, written}
-use mathlib.Core.Path.{_≡_, refl, sym, ap, ap₂, subst, _∙_}
-use native.Mathlib.Omega.{arith}
-use Prim.Native.Nat.{ℕ, suc, _+_, _*_, _/_, _-_, _≤_, _<_}
-use borrow.Author.Needs.{needs}
-use lib.Seq.{paste, paste-zero, paste-suc}
 use Rattle.run.proofs.text.with_word.Statement.{statement}
 use Rattle.run.proofs.text.with_word.Tie as tie
-use Rattle.run.proofs.text.with_word.Reads as reads
-use Rattle.run.proofs.text.with_word.Lts as lts
-use Rattle.run.proofs.sections.least.Reads as least-reads
 
 abbrev Inv-loop : tie.InvT-loop
 Inv-loop word at count bytes₀ i₀ bytes i = (i ≤ count) × (bytes ≡ paste bytes₀ at word i)
@@ -20,39 +17,30 @@ Inv-loop word at count bytes₀ i₀ bytes i = (i ≤ count) × (bytes ≡ paste
 abbrev μ-loop : tie.MeasureT-loop
 μ-loop word at count bytes₀ i₀ bytes i = count - i
 
--- src/text.rt:36:35
 sub-least : tie.Need-sub-least Inv-loop μ-loop
 sub-least c = omega arith
 
--- src/text.rt:36:9
 least-requires : tie.Need-least-requires Inv-loop μ-loop
 least-requires c κs = search needs
 
--- src/text.rt:39:5
 loop-holds : tie.Need-loop-holds Inv-loop μ-loop
 loop-holds c = (omega arith, paste-zero (c .before .before .before .args .text .bytes) (c .before .before .before .args .text .length) (c .before .before .before .args .word .now))
 
--- src/text.rt:40:25
 shared-slice-read-bytes : tie.Need-shared-slice-read-bytes Inv-loop μ-loop
 shared-slice-read-bytes c = omega (arith, c .before .before .before .before .least .ensures .0)
 
--- src/text.rt:40:15
 add-bytes : tie.Need-add-bytes Inv-loop μ-loop
 add-bytes c = record { fits = omega (arith, c .before .before .before .before .least .ensures .0, c .before .before .before .before .before .before .pre .1) }
 
--- src/text.rt:40:9
 array-write-bytes : tie.Need-array-write-bytes Inv-loop μ-loop
 array-write-bytes c = omega (arith, c .before .before .before .before .least .ensures .0, c .before .before .before .before .before .before .pre .1)
 
--- src/text.rt:41:9
 add-i : tie.Need-add-i Inv-loop μ-loop
 add-i c = omega arith
 
--- src/text.rt:39:5
 loop-less : tie.Need-loop-less Inv-loop μ-loop
 loop-less c = omega arith
 
--- src/text.rt:39:5
 loop-again : tie.Need-loop-again Inv-loop μ-loop
 loop-again c = let text = c .before .before .before .before .before .before .args .text in
     let word = c .before .before .before .before .before .before .args .word .now in
@@ -62,11 +50,9 @@ loop-again c = let text = c .before .before .before .before .before .before .arg
     let some : i < length word = omega (arith, c .before .before .before .before .least .ensures .0) in
     (omega arith, ap (λ (bytes : List ℕ). set bytes (text .length + i) (getD word i 0)) (c .before .before .loop .inv .1) ∙ paste-suc (text .bytes) (text .length) word i 0 inside some ∙ ap (paste (text .bytes) (text .length) word) (sym more))
 
--- src/text.rt:45:17
 add-t7 : tie.Need-add-t7 Inv-loop μ-loop
 add-t7 c = record { fits = omega (arith, c .before .before .before .least .ensures .0, c .before .before .before .before .before .pre .1) }
 
--- src/text.rt:30:1
 returns : tie.Need-returns Inv-loop μ-loop
 returns c = let text = c .before .before .before .before .before .args .text in
     let word = c .before .before .before .before .before .args .word .now in
