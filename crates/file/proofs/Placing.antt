@@ -10,7 +10,7 @@ use Rattle.rules.specs.declared.Head.{Head}
 use Rattle.rules.specs.Head.{zeroHead}
 use Rattle.file.specs.declared.Plan.{Plan}
 use Rattle.file.specs.Plan.{planOf}
-use Rattle.file.specs.Table.{headOf, placed, roundIn, roundsIn, startIn, startsIn, tableAfter}
+use Rattle.file.specs.Table.{headOf, placed, rowsIn, coinsIn, tickedIn, roundIn, roundsIn, startIn, startsIn, tableAfter}
 
 pub placed-length : (k : ℕ) (f : ℕ → Head) (table : List Head) → length (placed k f table) ≡ length table
 unfolding placed
@@ -34,11 +34,15 @@ placed-at (suc k) f table s h room = go (ℕ-discrete s k) (placed-at k f table 
     go (yes e) g = rw e (getD-set-same (placed k f table) k (f k) zeroHead (omega (arith, placed-length k f table)))
     go (no e) g = getD-set-other (placed k f table) k s (f k) zeroHead e ∙ g (omega (arith, e)) (omega arith)
 
+pub round-length : (n : ℕ) (rows coins : List ℕ) (table : List Head) → length (roundIn n rows coins table) ≡ length table
+unfolding roundIn
+round-length n rows coins table = placed-length n (tickedIn n rows coins table) table
+
 module _ (file : List ℕ) (plan : Plan) where
   pub rounds-length : (r : ℕ) (table : List Head) → length (roundsIn file plan r table) ≡ length table
-  unfolding roundsIn roundIn
+  unfolding roundsIn
   rounds-length zero table = refl
-  rounds-length (suc r) table = placed-length (plan .n) _ (roundsIn file plan r table) ∙ rounds-length r table
+  rounds-length (suc r) table = round-length (plan .n) (rowsIn file plan r) (coinsIn file plan r) (roundsIn file plan r table) ∙ rounds-length r table
 
   pub rounds-rest : (r : ℕ) (table : List Head) (s : ℕ) → plan .n ≤ s → headOf (roundsIn file plan r table) s ≡ headOf table s
   unfolding roundsIn roundIn

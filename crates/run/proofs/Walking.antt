@@ -39,7 +39,7 @@ use denote.Triple.Clauses.{Ended, Lasts, lasts}
 use Rattle.rules.specs.declared.Head.{Head}
 use Rattle.rules.specs.Head.{zeroHead}
 use Rattle.file.specs.declared.Plan.{Plan}
-use Rattle.file.specs.Table.{headOf, placed, tickedIn, rowsIn, coinsIn, roundIn, roundsIn}
+use Rattle.file.specs.Table.{headOf}
 use Rattle.rules.proofs.Head as T
 use Rattle.rules.proofs.Head.Laws as T′
 use Rattle.run.specs.declared.heads.Survey.{Survey}
@@ -286,18 +286,3 @@ pub length-ticked : (before : Survey) (n : ℕ) (rows coins : List ℕ) (k : ℕ
 unfolding tickedAll
 length-ticked before n rows coins zero table = refl
 length-ticked before n rows coins (suc k) table = length-set (tickedAll before n rows coins k table) k _ ∙ length-ticked before n rows coins k table
-
-pub length-placed : (k : ℕ) (f : ℕ → Head) (table : List Head) → length (placed k f table) ≡ length table
-unfolding placed
-length-placed zero f table = refl
-length-placed (suc k) f table = length-set (placed k f table) k (f k) ∙ length-placed k f table
-
-pub length-round : (n : ℕ) (rows coins : List ℕ) (table : List Head) → length (roundIn n rows coins table) ≡ length table
-unfolding roundIn
-length-round n rows coins table = length-placed n (tickedIn n rows coins table) table
-
-pub length-rounds : (file : List ℕ) (plan : Plan) (r : ℕ) (table : List Head) → length (roundsIn file plan r table) ≡ length table
-unfolding roundsIn
-length-rounds file plan zero table = refl
-length-rounds file plan (suc r) table =
-    length-round (plan .n) (rowsIn file plan r) (coinsIn file plan r) (roundsIn file plan r table) ∙ length-rounds file plan r table

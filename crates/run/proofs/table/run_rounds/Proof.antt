@@ -45,7 +45,8 @@ use Rattle.file.specs.declared.Plan.{Plan}
 use Rattle.file.specs.Table.{rowsIn, coinsIn, roundIn, roundsIn}
 use Rattle.run.specs.Small.{Small}
 use Rattle.run.proofs.Calling.{table-left, of-first}
-use Rattle.run.proofs.Walking.{R, planRow, machP, plan-lawful, plan-tells, tableTy, bytesTy, planTy, bytesVal, Bytes, Table, count-owned, plan-owned, answered, bytes-copied, table-lent, table-back, Upto, Nearer, Nearer-wf, fits, next, nearer, next-fits, within, at-end, one-more, after, length-rounds}
+use Rattle.file.proofs.Placing.{rounds-length}
+use Rattle.run.proofs.Walking.{R, planRow, machP, plan-lawful, plan-tells, tableTy, bytesTy, planTy, bytesVal, Bytes, Table, count-owned, plan-owned, answered, bytes-copied, table-lent, table-back, Upto, Nearer, Nearer-wf, fits, next, nearer, next-fits, within, at-end, one-more, after}
 use Rattle.run.proofs.heads.rows_of as rows-of
 use Rattle.run.proofs.heads.rows_of.Symbol as rows-of-def
 use Rattle.run.proofs.heads.rows_of.Symbol.{name as #run·heads·rows-of}
@@ -115,7 +116,7 @@ module _ {M : Type 1} (𝓤 : URA M) (H : Heap 𝓤) (A : Atoms 𝓤) (W : Given
   L j = roundsIn (fx .now) p j ys
 
   len : (j : ℕ) → length (L j) ≡ length ys
-  len j = length-rounds (fx .now) p j ys
+  len j = rounds-length (fx .now) p j ys
 
   n-fits : p .n < 2 ^ 64
   n-fits = let few = small .heads in omega (arith, few)

@@ -40,7 +40,8 @@ use denote.Triple.Walked.{says, needs, Stays, stay-none, stay-slice, stay-none-s
 use denote.Exit.{yes}
 use Rattle.rules.specs.declared.Head.{Head}
 use Rattle.file.specs.Table.{placed, startIn}
-use Rattle.run.proofs.Walking.{R, headSize, head-lawful, headTy, tableTy, bytesTy, bytesVal, Bytes, count-owned, answered, bytes-copied, head-out, head-put, table-closed, Upto, Nearer, Nearer-wf, fits, next, nearer, next-fits, within, place-fits, at-end, one-more, after, length-placed}
+use Rattle.file.proofs.Placing.{placed-length}
+use Rattle.run.proofs.Walking.{R, headSize, head-lawful, headTy, tableTy, bytesTy, bytesVal, Bytes, count-owned, answered, bytes-copied, head-out, head-put, table-closed, Upto, Nearer, Nearer-wf, fits, next, nearer, next-fits, within, place-fits, at-end, one-more, after}
 use Rattle.run.proofs.heads.started as started
 use Rattle.run.proofs.heads.started.Symbol as started-def
 use Rattle.run.proofs.heads.started.Symbol.{name as #run·heads·started}
@@ -84,7 +85,7 @@ module _ {M : Type 1} (𝓤 : URA M) (H : Heap 𝓤) (A : Atoms 𝓤) (W : Given
   L i = placed i (startIn (fx .now) n) ys
 
   len : (i : ℕ) → length (L i) ≡ length ys
-  len i = length-placed i (startIn (fx .now) n) ys
+  len i = placed-length i (startIn (fx .now) n) ys
 
   abbrev Post : Val → SProp 𝓤
   Post = walkOf 𝓤 H A start-all.ended stayed (start-all.clauses 𝓤 H A mem run) .post (((κ, (κ′, tt)), (q, (q′, tt)), tt, a, vals), tt)
