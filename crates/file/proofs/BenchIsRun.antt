@@ -19,12 +19,12 @@ use Rattle.rules.specs.Round.{received, ticksOfRound}
 use Rattle.rules.proofs.Rounds.{round-is-run, untouched, ticked-once}
 use Rattle.rules.proofs.Phases.{no-early-refusal}
 use Rattle.file.specs.declared.Plan.{Plan}
+use Rattle.file.specs.Rules.{KeepsEveryRule}
 use Rattle.file.specs.Table.{headOf, startIn, startsIn, rowsIn, coinsIn, receivedIn, tickedIn, roundIn, roundsIn}
 use Rattle.file.specs.Vote.{voteIn, channelIn, eventsIn}
 use Rattle.file.proofs.Placing.{placed-length, placed-at, rounds-length}
-use Rattle.file.proofs.Plans.{AcceptedFile}
 
-module _ (file : List ℕ) (plan : Plan) (table : List Head) (accepted : AcceptedFile file (length table) plan) where
+module _ (file : List ℕ) (plan : Plan) (table : List Head) (accepted : KeepsEveryRule file (length table) plan) where
   abbrev starts : List Head
   starts = startsIn file (plan .n) table
 

@@ -1,7 +1,7 @@
 -- What a plan says: either the file is refused, by a number from 12 to 16, and there are no heads and no rounds; or it is
 -- accepted, and every byte of it has its place and keeps its rule.
-use Prim.Native.Nat.{ℕ, _+_, _*_, _≤_, _<_}
-use mathlib.Core.Path.{_≡_, refl, ap}
+use Prim.Native.Nat.{ℕ, _+_, _*_, _≤_}
+use mathlib.Core.Path.{_≡_, refl, sym, ap, _∙_}
 use mathlib.Core.List.{List}
 use mathlib.Core.Bool.{Bool, true, false, cond}
 use mathlib.Core.Logic.{_⊎_, inl, inr}
@@ -9,13 +9,11 @@ use native.Mathlib.Omega.{arith}
 use lib.ListN.{length, getD}
 use lib.Dec.{ltb}
 use borrow.Author.Tests.{ltb-false}
-use Rattle.rules.specs.Heard.{within}
-use Rattle.rules.specs.Record.{wordAt}
-use Rattle.rules.specs.Given.{Heads}
 use Rattle.file.specs.declared.Section.{Section}
 use Rattle.file.specs.declared.Section.the-variants.{Body, Refused}
 use Rattle.file.specs.declared.Plan.{Plan}
 use Rattle.file.specs.Section.{countAt, counted, unlessBroken, checked, proposalsOf, neededOf, lossesOf, coinsOf}
+use Rattle.file.specs.Rules.{KeepsEveryRule}
 use Rattle.file.specs.Plan.{refusedPlan, taken, closed, afterLosses, afterNeeded, afterProposals, planOf}
 use Rattle.file.proofs.Sections.{proposals-body, needed-body, losses-body, coins-body}
 
@@ -57,29 +55,15 @@ checked-refused file width breaks section s = go section _ _ s
 
 -- ---- acceptance
 
-pub record AcceptedFile (file : List ℕ) (room : ℕ) (plan : Plan) : Type 0 where
-  pub number : plan .number ≡ 0
-  pub heads : Heads (plan .n)
-  pub enough : plan .n ≤ room
-  pub most : plan .n < plan .needed * 2
-  pub some : plan .needed ≤ plan .n
-  pub rounds : plan .rounds ≤ 256
-  pub losses : plan .losses ≡ 7 + plan .n
-  pub coins : plan .coins ≡ 9 + plan .n + plan .rounds * plan .n * 4
-  pub whole : length file ≡ plan .coins + plan .rounds * plan .n
-  pub proposal : (s : ℕ) → s < plan .n → getD file (2 + s) 0 < 2
-  pub row : (i : ℕ) → i < plan .rounds * plan .n → within (plan .n) (wordAt file (plan .losses + i * 4)) ≡ true
-  pub coin : (i : ℕ) → i < plan .rounds * plan .n → getD file (plan .coins + i) 0 < 2
-
 module _ (file : List ℕ) (room : ℕ) where
   abbrev Either : Plan → Type 0
-  Either plan = AcceptedFile file room plan ⊎ RefusedFile plan
+  Either plan = KeepsEveryRule file room plan ⊎ RefusedFile plan
 
   taken-either : (section : Section) (next : ℕ → ℕ → Plan) → Sectioned section → ((start size : ℕ) → section ≡ Body start size → Either (next start size)) → Either (taken section next)
   taken-either (Body start size) next s f = f start size refl
   taken-either (Refused number place) next s f = inr (record { number = number; place = place; low = s .0; high = omega (arith, s .1); is = refl })
 
-  closed-either : (size end : ℕ) (plan : Plan) → (size ≤ end → plan .n ≤ room → AcceptedFile file room plan) → Either (closed size room end plan)
+  closed-either : (size end : ℕ) (plan : Plan) → (size ≤ end → plan .n ≤ room → KeepsEveryRule file room plan) → Either (closed size room end plan)
   unfolding closed
   closed-either size end plan f = go (ltb end size) (ltb room (plan .n)) refl refl
     where
@@ -97,24 +81,34 @@ module _ (file : List ℕ) (room : ℕ) where
       taken-either (coinsOf file (rows + size) (countAt file (at + one) * n)) _ (checked-refused file 1 _ _ (counted-refused file (rows + size) _ _)) (λ bits count c. let C = coins-body file (rows + size) (countAt file (at + one) * n) bits count c in
       closed-either (length file) (bits + count) _ (λ ends few.
       record {
-        number = refl;
+        first = sym (P .counts);
         heads = P .heads;
-        enough = few;
+        proposal = λ i h. rw (P .starts) at (P .bit i h);
+        second = moved (s + n) (2 + n) (omega (arith, P .starts)) ∙ Q .counts;
+        needed = ap (λ (k : ℕ). getD file k 0) (let e : 4 + n ≡ at = omega (arith, P .starts, Q .starts) in e);
         most = Q .most;
         some = Q .some;
+        third = moved (at + one) (5 + n) (omega (arith, P .starts, Q .starts, Q .single));
         rounds = L .rounds;
         losses = omega (arith, P .starts, Q .starts, Q .single, L .starts);
-        coins = omega (arith, P .starts, Q .starts, Q .single, L .starts, L .sized, C .starts);
-        whole = omega (arith, ends, C .inside, C .sized);
-        proposal = λ i h. rw (P .starts) at (P .bit i h);
         row = L .row;
+        fourth = moved (rows + size) (7 + n + countAt file (at + one) * n * 4) (omega (arith, P .starts, Q .starts, Q .single, L .starts, L .sized)) ∙ C .counts;
+        coins = omega (arith, P .starts, Q .starts, Q .single, L .starts, L .sized, C .starts);
         coin = λ i h. C .bit i (omega (arith, h, C .sized));
+        whole = omega (arith, ends, C .inside, C .sized);
+        enough = few;
+        number = refl;
+        place = refl;
       })))))
+    where
+      -- a count read at the place that a section gives
+      moved : (a b : ℕ) → b ≡ a → countAt file b ≡ countAt file a
+      moved a b e = ap (countAt file) e
 
-  pub accepted-file : planOf file room .number ≡ 0 → AcceptedFile file room (planOf file room)
+  pub accepted-file : planOf file room .number ≡ 0 → KeepsEveryRule file room (planOf file room)
   accepted-file zero = go planned
     where
-      go : Either (planOf file room) → AcceptedFile file room (planOf file room)
+      go : Either (planOf file room) → KeepsEveryRule file room (planOf file room)
       go (inl accepted) = accepted
       go (inr refused) = absurd (omega (arith, zero, ap (λ (p : Plan). p .number) (refused .is), refused .low))
 

@@ -7,13 +7,14 @@ use native.Mathlib.Omega.{arith}
 use lib.ListN.{length, getD, drop, length-take, length-drop}
 use lib.Dec.{ltb, leb}
 use lib.Seq.{getD-take, getD-drop}
-use borrow.Author.Tests.{ltb-true, ltb-false, leb-true}
+use borrow.Author.Tests.{ltb-true, ltb-false, leb-true, eqb-true}
 use Rattle.rules.specs.Ballot.{notHeads}
-use Rattle.rules.specs.Heard.{within}
+use Rattle.rules.specs.Heard.{member, within}
 use Rattle.rules.specs.Record.{wordAt}
 use Rattle.rules.specs.Given.{Heads}
 use Rattle.rules.proofs.Truth.{and-left, and-right}
 use Rattle.rules.proofs.Below.{not-some}
+use Rattle.rules.proofs.Sets.{means-within}
 use Rattle.rules.proofs.Meanings.{heads}
 use Rattle.file.specs.declared.Section.{Section}
 use Rattle.file.specs.declared.Section.the-variants.{Body, Refused}
@@ -101,7 +102,7 @@ module _ (file : List ℕ) where
   body-at start size i h = getD-take size (drop start file) i 0 h ∙ getD-drop start file i 0
 
   -- and so is a row
-  word-at : (start size i : ℕ) → i + 3 < size → wordAt (bodyOf file (Body start size)) i ≡ wordAt file (start + i)
+  pub word-at : (start size i : ℕ) → i + 3 < size → wordAt (bodyOf file (Body start size)) i ≡ wordAt file (start + i)
   word-at start size i h =
       rw (body-at start size i (omega arith), body-at start size (i + 1) (omega arith), body-at start size (i + 2) (omega arith), body-at start size (i + 3) (omega arith))
       (rw (next 1, next 2, next 3) refl)
@@ -110,7 +111,7 @@ module _ (file : List ℕ) where
       next k = omega arith
 
   -- a body that stands inside the file is as long as it says
-  body-long : (start size : ℕ) → start + size ≤ length file → length (bodyOf file (Body start size)) ≡ size
+  pub body-long : (start size : ℕ) → start + size ≤ length file → length (bodyOf file (Body start size)) ≡ size
   body-long start size h = omega (arith, length-take size (drop start file), length-drop start file)
 
   -- no piece of a body whose bytes were looked at breaks its rule
@@ -153,6 +154,7 @@ module _ (file : List ℕ) where
 
   -- "Count 1, then k, the heads needed: more than n/2, at most n."
   pub record Needed (at n start one : ℕ) : Type 0 where
+    pub counts : countAt file at ≡ 1
     pub starts : start ≡ at + 2
     pub single : one ≡ 1
     pub inside : start + one ≤ length file
@@ -169,6 +171,7 @@ module _ (file : List ℕ) where
       let here : getD (bodyOf file (Body start one)) 0 0 ≡ getD file start 0 = byte ∙ ap (λ (k : ℕ). getD file k 0) (omega arith) in
       let k = need-fits n _ (unbroken start one 1 (notNeed n) inside (x .1) 0 (omega (arith, c .sized))) in
       record {
+        counts = eqb-true (countAt file at) 1 (not-false _ (c .ruled));
         starts = c .starts;
         single = c .sized;
         inside = inside;
@@ -182,7 +185,7 @@ module _ (file : List ℕ) where
     pub rounds : countAt file at ≤ 256
     pub sized : size ≡ countAt file at * n * 4
     pub inside : start + size ≤ length file
-    pub row : (i : ℕ) → i < countAt file at * n → within n (wordAt file (start + i * 4)) ≡ true
+    pub row : (i : ℕ) → i < countAt file at * n → (s : ℕ) → member s (wordAt file (start + i * 4)) ≡ true → s < n
 
   pub losses-body : (at n start size : ℕ) → lossesOf file at n ≡ Body start size → Losses at n start size
   unfolding lossesOf
@@ -195,11 +198,15 @@ module _ (file : List ℕ) where
         rounds = ltb-false 256 (countAt file at) (c .ruled);
         sized = c .sized;
         inside = inside;
-        row = λ i h. let low : i * 4 + 3 < size = omega (arith, h, c .sized) in ap (within n) (sym (word-at start size (i * 4) low)) ∙ not-false _ (unbroken start size 4 (notRow n) inside (x .1) i (omega (arith, h, c .sized)));
+        row = λ i h.
+            let low : i * 4 + 3 < size = omega (arith, h, c .sized) in
+            let fits = ap (within n) (sym (word-at start size (i * 4) low)) ∙ not-false _ (unbroken start size 4 (notRow n) inside (x .1) i (omega (arith, h, c .sized))) in
+            means-within n (wordAt file (start + i * 4)) .0 fits;
       }
 
   -- "Count n times rounds, then that many coins (0 or 1)"
   pub record Coins (at count start size : ℕ) : Type 0 where
+    pub counts : countAt file at ≡ count
     pub starts : start ≡ at + 2
     pub sized : size ≡ count
     pub inside : start + size ≤ length file
@@ -211,4 +218,10 @@ module _ (file : List ℕ) where
       let x = checked-body file 1 notBit _ start size e in
       let c = counted-body file at _ count start size (x .0) in
       let inside : start + size ≤ length file = omega (arith, c .starts, c .sized, c .inside) in
-      record { starts = c .starts; sized = c .sized; inside = inside; bit = bits start size inside (x .1) }
+      record {
+        counts = eqb-true (countAt file at) count (not-false _ (c .ruled));
+        starts = c .starts;
+        sized = c .sized;
+        inside = inside;
+        bit = bits start size inside (x .1);
+      }

@@ -4,6 +4,7 @@
 use Prim.Native.Nat.{ℕ, _+_, _*_, _≤_, _<_}
 use mathlib.Core.Path.{_≡_, refl, sym, ap, _∙_}
 use mathlib.Core.List.{List}
+use mathlib.Core.Logic.{_↔_}
 use native.Mathlib.Omega.{arith}
 use lib.ListN.{length, getD, take}
 use Rattle.rules.specs.declared.Head.{Head}
@@ -14,12 +15,14 @@ use Rattle.rules.specs.Record.{wordAt}
 use Rattle.rules.specs.Run.{Vote, Event, headIn, Run, Written}
 use Rattle.rules.proofs.Demands.{no-two-decisions-differ, each-was-proposed}
 use Rattle.file.specs.declared.Plan.{Plan}
+use Rattle.file.specs.Rules.{KeepsEveryRule}
 use Rattle.file.specs.Plan.{planOf}
 use Rattle.file.specs.Table.{headOf, startsIn, rowsIn, coinsIn, receivedIn, roundsIn, tableAfter}
 use Rattle.file.specs.Vote.{voteIn, eventsIn}
 use Rattle.file.specs.Figures.{outcomeIn, outcomeOf}
 use Rattle.file.specs.Report.{reportOf}
-use Rattle.file.proofs.Plans.{AcceptedFile, accepted-file, refused-file}
+use Rattle.file.proofs.Plans.{accepted-file, refused-file}
+use Rattle.file.proofs.Exactly.{planned-so}
 use Rattle.file.proofs.Placing.{after-length, after-rest}
 use Rattle.file.proofs.BenchIsRun.{heads-are, rounds-are-run, bench-tick-accepted}
 use Rattle.file.proofs.FirstBytes.{refused-table, the-first-bytes-decide}
@@ -43,14 +46,24 @@ same-number : (file : List ℕ) (table : List Head) → outcomeOf file table .nu
 unfolding outcomeOf outcomeIn
 same-number file table = refl
 
-accepted : (file : List ℕ) (table : List Head) → Accepts file table → AcceptedFile file (length table) (planFor file table)
+accepted : (file : List ℕ) (table : List Head) → Accepts file table → KeepsEveryRule file (length table) (planFor file table)
 accepted file table zero = accepted-file file (length table) (sym (same-number file table) ∙ zero)
 
 -- ---- Demand 1
 
--- document 01's rules for a run file: what is accepted keeps them all, byte for byte (AcceptedFile), and has no other byte
-pub an-accepted-file-keeps-every-rule : (file : List ℕ) (table : List Head) → Accepts file table → AcceptedFile file (length table) (planFor file table)
-an-accepted-file-keeps-every-rule = accepted
+-- "Bad input is refused": a file is accepted exactly when it keeps every rule of document 01 (specs/Rules)
+pub a-file-is-accepted-exactly-when-it-keeps-every-rule : (file : List ℕ) (table : List Head) → Accepts file table ↔ ((plan : Plan) × KeepsEveryRule file (length table) plan)
+a-file-is-accepted-exactly-when-it-keeps-every-rule file table = (
+  λ zero. (planFor file table, accepted file table zero),
+  λ rules. same-number file table ∙ ap (λ (p : Plan). p .number) (planned-so file (length table) (rules .0) (rules .1)),
+)
+
+-- and a refused one is refused by a number from 12 to 16
+pub a-file-is-refused-by-12-to-16 : (file : List ℕ) (table : List Head) → (Accepts file table → ⊥) → (12 ≤ outcomeOf file table .number) × (outcomeOf file table .number ≤ 16)
+a-file-is-refused-by-12-to-16 file table refused =
+    let R = refused-file file (length table) (λ zero. refused (same-number file table ∙ zero)) in
+    let number = same-number file table ∙ ap (λ (p : Plan). p .number) (R .is) in
+    (omega (arith, number, R .low), omega (arith, number, R .high))
 
 -- "Refused: nothing in the table changes."
 pub a-refused-file-changes-nothing : (file : List ℕ) (table : List Head) → (Accepts file table → ⊥) → tableAfter file table ≡ table

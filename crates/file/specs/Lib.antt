@@ -5,3 +5,4 @@ pub mod Figures
 pub mod Benched
 pub mod Report
 pub mod Vote
+pub mod Rules
