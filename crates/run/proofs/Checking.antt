@@ -12,7 +12,7 @@ use Rattle.rules.specs.Below.{first}
 use Rattle.rules.proofs.Below.{first-le}
 use Rattle.file.specs.declared.Section.{Section}
 use Rattle.file.specs.Section.{bodyOf, firstBroken, unlessBroken, checked, notBit, notNeed}
-use Rattle.run.specs.Survey.{outside}
+use Rattle.run.specs.Sections.{outside}
 
 pub checked-is : (file body : List ℕ) (section answer : Section) (width broken : ℕ) (breaks : List ℕ → ℕ → Bool) → body ≡ bodyOf file section → broken ≡ firstBroken body width breaks
     → answer ≡ unlessBroken section broken (length body / width) width → answer ≡ checked file width breaks section

@@ -14,7 +14,7 @@ use Rattle.file.specs.declared.Section.{Section}
 use Rattle.file.specs.declared.Section.the-variants.{Body, Refused}
 use Rattle.file.specs.Section.{bodyOf}
 use Rattle.run.specs.Survey.{keptBytes, withHeard}
-use Rattle.run.specs.Small.{Near}
+use Rattle.run.specs.Sections.{Near}
 
 take-least : (size : ℕ) (xs : List ℕ) → take (min size (length xs)) xs ≡ take size xs
 take-least size xs = go (decLt size (length xs))

@@ -1,3 +1,4 @@
+pub mod Sections
 pub mod Survey
 pub mod Small
 pub mod Writing

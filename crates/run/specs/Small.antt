@@ -1,8 +1,6 @@
 -- How large the fields of a run file's plan are: no sum or product of them leaves a usize. Document 01: "The largest file is
 -- 41,001 bytes."
 use Prim.Native.Nat.{_≤_}
-use Rattle.file.specs.declared.Section.{Section}
-use Rattle.file.specs.declared.Section.the-variants.{Body, Refused}
 use Rattle.file.specs.declared.Plan.{Plan}
 
 pub record Small (plan : Plan) : Type 0 where
@@ -11,8 +9,3 @@ pub record Small (plan : Plan) : Type 0 where
   pub rounds : plan .rounds ≤ 256
   pub losses : plan .losses ≤ 41001
   pub coins : plan .coins ≤ 41001
-
--- a section's body starts near the front, and is no longer than 65,535 rounds of 32 rows of 4 bytes
-abbrev pub Near : Section → Type 0
-Near (Body start length) = (start ≤ 41003) × (length ≤ 8388480)
-Near (Refused number place) = Unit {0}

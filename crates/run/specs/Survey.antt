@@ -2,9 +2,8 @@
 -- with them.
 use Prim.Native.Nat.{ℕ, zero, suc, _+_, _*_}
 use mathlib.Core.List.{List, [], _++_}
-use mathlib.Core.Bool.{Bool, cond, _||_}
+use mathlib.Core.Bool.{Bool, cond}
 use lib.ListN.{getD, set, replicate}
-use lib.Dec.{ltb}
 use Rattle.rules.specs.declared.Ballot.{Ballot}
 use Rattle.rules.specs.declared.Head.{Head}
 use Rattle.rules.specs.Ballot.{statusCode, bytesOf, zeroBallot}
@@ -50,7 +49,3 @@ unfoldable pub tickedAll : Survey → ℕ → List ℕ → List ℕ → ℕ → 
 tickedAll before n rows coins zero table = table
 tickedAll before n rows coins (suc k) table =
     set (tickedAll before n rows coins k table) k (tickedBy before n rows coins k (headOf (tickedAll before n rows coins k table) k))
-
--- a byte below low or above high
-abbrev pub outside : ℕ → ℕ → List ℕ → ℕ → Bool
-outside low high bytes at = ltb (getD bytes at 0) low || ltb high (getD bytes at 0)

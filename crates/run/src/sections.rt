@@ -10,8 +10,7 @@ ghost use Rattle.rules.specs.Ballot.{notHeads};
 ghost use Rattle.rules.specs.Heard.{within};
 ghost use Rattle.rules.specs.Record.{wordAt};
 ghost use Rattle.file.specs.Section.{countAt, bodyOf, counted as countedOf, unlessBroken, checked, notRow, proposalsOf, neededOf, lossesOf, coinsOf};
-ghost use Rattle.run.specs.Small.{Near};
-ghost use Rattle.run.specs.Survey.{outside};
+ghost use Rattle.run.specs.Sections.{Near, outside};
 use codes::word_of;
 use file::Section;
 

@@ -5,7 +5,7 @@ use borrow.Author.Tests.{lt-ltb, le-ltb}
 use borrow.Author.Needs.{needs}
 use Rattle.file.specs.declared.Section.the-variants.{Body}
 use Rattle.file.specs.Section.{unlessBroken}
-use Rattle.run.specs.Small.{Near}
+use Rattle.run.specs.Sections.{Near}
 use Rattle.run.proofs.sections.unless_broken.Statement.{statement}
 use Rattle.run.proofs.sections.unless_broken.Tie as tie
 
