@@ -1,1 +1,4 @@
 pub mod Only
+pub mod Growing
+pub mod Plain
+pub mod Listening

@@ -2,7 +2,7 @@
 ghost use mathlib.Core.Path.{_≡_};
 ghost use Prim.Native.Nat.{_/_, _<_};
 ghost use lib.ListN.{length};
-ghost use Rattle.rules.specs.Ballot.{bytesOf, classOf, allowed as allowedOf, obeys as obeysOf, breaksRule, ballotAt, notHeads, readNumber, readBallot, numberRead, ballotRead};
+ghost use Rattle.rules.specs.Ballot.{bytesOf, classOf, allowed as allowedOf, obeys as obeysOf, breaksRule, phaseAt, ballotAt, notHeads, readNumber, readBallot, numberRead, ballotRead};
 use codes::phase_of;
 use codes::status_code;
 use codes::status_of;
@@ -40,12 +40,21 @@ pub(crate) fn breaks_rule(n: u32, ballots: &[u8], i: usize) -> bool
     ensures { λ r. ⌜ r ≡ breaksRule n (now (ballots .entry)) i ⌝ }
 {
     let at = i * 5;
-    !((wide(ballots[at]) < n)
-        & obeys(
-            phase_of(ballots[at + 3], ballots[at + 4]),
-            ballots[at + 1],
-            ballots[at + 2],
-        ))
+    breaks_of_class(
+        n,
+        class(phase_of(ballots[at + 3], ballots[at + 4])),
+        ballots,
+        i,
+    )
+}
+
+// The same where the class of its phase is known.
+pub(crate) fn breaks_of_class(n: u32, class: Class, ballots: &[u8], i: usize) -> bool
+    requires { ⌜ (class ≡ classOf (phaseAt (now ballots) i)) × (i < length (now ballots) / 5) ⌝ }
+    ensures { λ r. ⌜ r ≡ breaksRule n (now (ballots .entry)) i ⌝ }
+{
+    let at = i * 5;
+    !((wide(ballots[at]) < n) & allowed(class, ballots[at + 1], ballots[at + 2]))
 }
 
 fn wide(byte: u8) -> u32
@@ -77,7 +86,7 @@ pub(crate) fn obeys(phase: u16, value: u8, status: u8) -> bool
     allowed(class(phase), value, status)
 }
 
-fn class(phase: u16) -> Class
+pub(crate) fn class(phase: u16) -> Class
     ensures { λ r. ⌜ r ≡ classOf phase ⌝ }
 {
     match phase {

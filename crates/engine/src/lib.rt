@@ -6,6 +6,7 @@ mod ballot;
 mod head;
 mod heard;
 mod list;
+mod look;
 mod step;
 mod ticks;
 

@@ -11,7 +11,7 @@ use crate::ballot::ballot_at;
 use crate::ballot::breaks_rule;
 use crate::head::own_ballot;
 use crate::head::stands_under;
-use crate::heard::hear;
+use crate::look::hear;
 use codes::status_code;
 use codes::value_code;
 use rules::Ballot;
@@ -172,7 +172,11 @@ fn first_differing(ballots: &[u8], i: usize) -> usize
 fn differ(a: Ballot, b: Ballot) -> bool
     ensures { λ r. ⌜ r ≡ differOf a b ⌝ }
 {
-    (a.sender == b.sender) & ((a.phase == b.phase) & !same_state(a, b))
+    if a.sender == b.sender {
+        (a.phase == b.phase) & !same_state(a, b)
+    } else {
+        false
+    }
 }
 
 fn held_otherwise(head: Head, ballot: Ballot) -> bool

@@ -1,10 +1,11 @@
 // Steps 3 and 4.
 ghost use mathlib.Core.Path.{_≡_};
-ghost use mathlib.Core.Bool.{false, cond};
+ghost use mathlib.Core.Bool.{cond};
+ghost use Prim.Native.Nat.{_<_};
 ghost use lib.Dec.{eqb};
 ghost use Rattle.rules.specs.Ballot.{statusCode};
 ghost use Rattle.rules.specs.Head.{decisionFor as decisionForOf};
-ghost use Rattle.rules.specs.Tick.{quorum as quorumOf, majority as majorityOf, stepValue, stepStatus, stepped as steppedOf, settled as settledOf, phasesEnd as phasesEndOf};
+ghost use Rattle.rules.specs.Tick.{quorum as quorumOf, majority as majorityOf, risen as risenOf, stepValue, stepStatus, settled as settledOf};
 use crate::heard::heard;
 use crate::heard::size;
 use codes::status_code;
@@ -14,26 +15,22 @@ use rules::Head;
 use rules::Status;
 use rules::Value;
 
-// Step 3.
-pub(crate) fn stepped(head: Head, coin: u8) -> Head
-    requires { ⌜ phasesEndOf head ≡ false ⌝ }
-    ensures { λ r. ⌜ r ≡ steppedOf head coin ⌝ }
+// Step 3, of a head that has heard enough.
+pub(crate) fn risen(head: Head, coin: u8) -> Head
+    requires { ⌜ head .phase < 65535 ⌝ }
+    ensures { λ r. ⌜ r ≡ risenOf head coin ⌝ }
 {
-    if quorum(head) {
-        let decision = head.decision;
-        Head {
-            n: head.n,
-            own: head.own,
-            phase: head.phase + 1,
-            value: step_value(head, coin),
-            status: step_status(head),
-            decision: decision,
-            zeros: 0,
-            ones: 0,
-            blanks: 0,
-        }
-    } else {
-        head
+    let decision = head.decision;
+    Head {
+        n: head.n,
+        own: head.own,
+        phase: head.phase + 1,
+        value: step_value(head, coin),
+        status: step_status(head),
+        decision: decision,
+        zeros: 0,
+        ones: 0,
+        blanks: 0,
     }
 }
 
@@ -57,14 +54,8 @@ pub(crate) fn settled(head: Head) -> Head
     }
 }
 
-// Whether step 3 would need a phase above the last.
-pub(crate) fn phases_end(head: Head) -> bool
-    ensures { λ r. ⌜ r ≡ phasesEndOf head ⌝ }
-{
-    quorum(head) & (65536 <= head.phase as u32 + 1)
-}
-
-fn quorum(head: Head) -> bool
+// Whether step 3 is taken.
+pub(crate) fn quorum(head: Head) -> bool
     ensures { λ r. ⌜ r ≡ quorumOf head ⌝ }
 {
     (head.n as u32) < (size(head.zeros) + size(head.ones) + size(head.blanks)) * 2

@@ -1,14 +1,20 @@
 // One tick: the refusals in number order, and the four steps.
 ghost use mathlib.Core.Path.{_≡_};
-ghost use Rattle.rules.specs.Tick.{tickOf, notList, bothHeard, decidesOtherwise};
+ghost use mathlib.Core.Bool.{true, cond};
+ghost use Rattle.rules.specs.Head.{sound as soundOf};
+ghost use Rattle.rules.specs.Tick.{tickOf, notList, bothHeard, decidesOtherwise, settled as settledOf};
+ghost use Rattle.engine.specs.Look.{listened as listenedOf};
 use crate::head::sound;
 use crate::list::first_breaking;
 use crate::list::first_contradicting;
 use crate::list::first_own_from_ahead;
 use crate::list::gathered;
-use crate::step::phases_end;
+use crate::look::is_plain;
+use crate::look::looked;
+use crate::look::shown;
+use crate::step::quorum;
+use crate::step::risen;
 use crate::step::settled;
-use crate::step::stepped;
 use codes::decision_code;
 use codes::status_code;
 use codes::value_code;
@@ -28,6 +34,56 @@ pub fn tick(head: Head, ballots: &[u8], coin: u32) -> Ticked
     if not_list(ballots) {
         return refused(5, head);
     }
+    let listened = listened(head, ballots);
+    let number = listened.number;
+    if number != 0 {
+        return refused(number, head);
+    }
+    let heard = listened.head;
+    if both_heard(heard) {
+        return refused(9, head);
+    }
+    if !quorum(heard) {
+        return ended(head, heard);
+    }
+    if 65535 <= heard.phase {
+        return refused(10, head);
+    }
+    ended(head, risen(heard, coin as u8))
+}
+
+// Number 11, or step 4.
+fn ended(head: Head, end: Head) -> Ticked
+    ensures { λ r. ⌜ r ≡ cond (decidesOtherwise end) (record { number = 11; head = head }) (record { number = 0; head = settledOf end }) ⌝ }
+{
+    if decides_otherwise(end) {
+        return refused(11, head);
+    }
+    refused(0, settled(end))
+}
+
+// Numbers 6 to 8; where none of them applies, the head after steps 1 and 2.
+fn listened(head: Head, ballots: &[u8]) -> Ticked
+    requires { ⌜ soundOf head ≡ true ⌝ }
+    ensures { λ r. ⌜ r ≡ listenedOf head (now (ballots .entry)) ⌝ }
+{
+    if ballots.len() == 0 {
+        return refused(0, head);
+    }
+    let seen = looked(head, ballots);
+    if !is_plain(head, seen) {
+        return searched(head, ballots);
+    }
+    if seen.above {
+        return refused(0, gathered(head, ballots));
+    }
+    refused(0, shown(head, seen))
+}
+
+// The same for any list, with a search for each number.
+fn searched(head: Head, ballots: &[u8]) -> Ticked
+    ensures { λ r. ⌜ r ≡ listenedOf head (now (ballots .entry)) ⌝ }
+{
     let count = ballots.len() / 5;
     if first_breaking(head.n, ballots) < count {
         return refused(6, head);
@@ -38,21 +94,7 @@ pub fn tick(head: Head, ballots: &[u8], coin: u32) -> Ticked
     if first_contradicting(head, ballots) < count {
         return refused(8, head);
     }
-    let heard = gathered(head, ballots);
-    if both_heard(heard) {
-        return refused(9, head);
-    }
-    if phases_end(heard) {
-        return refused(10, head);
-    }
-    let end = stepped(heard, coin as u8);
-    if decides_otherwise(end) {
-        return refused(11, head);
-    }
-    Ticked {
-        number: 0,
-        head: settled(end),
-    }
+    refused(0, gathered(head, ballots))
 }
 
 fn refused(number: u8, head: Head) -> Ticked

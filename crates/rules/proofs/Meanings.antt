@@ -5,7 +5,7 @@ use mathlib.Core.Bool.{Bool, true, false, cond, _&&_, not}
 use native.Mathlib.Decide.{ℕ-discrete}
 use native.Mathlib.Omega.{arith}
 use lib.Dec.{ltb, leb, eqb, lit<}
-use borrow.Author.Tests.{eq-eqb, ne-eqb, eqb-true, leb-false}
+use borrow.Author.Tests.{eq-eqb, ne-eqb, eqb-true}
 use Rattle.rules.specs.declared.Value.{Value}
 use Rattle.rules.specs.declared.Value.the-variants.{Zero, One, Blank}
 use Rattle.rules.specs.declared.Status.{Status}
@@ -18,7 +18,6 @@ use Rattle.rules.specs.declared.Head.{Head}
 use Rattle.rules.specs.Ballot.{valueCode, valueOf, statusCode, statusOf, sameValue, sameStatus, classOf, allowed, obeys, notHeads}
 use Rattle.rules.specs.Heard.{member, heard}
 use Rattle.rules.specs.Head.{decisionCode, decisionFor, isDecided, isWritten, heardAs, standsUnder, decisionFits, setsFit, phaseFits, sound}
-use Rattle.rules.specs.Tick.{quorum, phasesEnd}
 use Rattle.rules.specs.Record.{decisionOf}
 use Rattle.rules.specs.Given.{Heads, Obeys, first, second, odd, even, Hears, Sound}
 use Rattle.rules.proofs.Truth.{Means, never, means-self, means-as, means-and, means-not, means-then, means-twice, means-lt, means-le, means-eq, means-code}
@@ -287,10 +286,3 @@ hears-nobody h z o b v s m = never (sym (member-none s) ∙ ap (member s) (sym (
     empty Zero = z
     empty One = o
     empty Blank = b
-
--- ---- the step
-
--- a step that is not refused by 10 has a phase to go to
-pub phase-left : (h : Head) → quorum h ≡ true → phasesEnd h ≡ false → h .phase + 1 < 65536
-unfolding phasesEnd
-phase-left h q e = leb-false 65536 (h .phase + 1) (ap (λ (t : Bool). t && leb 65536 (h .phase + 1)) (sym q) ∙ e)

@@ -1,16 +1,11 @@
-use Rattle.rules.specs.Ballot.{breaksRule}
+use mathlib.Core.Path.{ap, _∙_}
+use Rattle.rules.specs.Ballot.{classOf}
 use borrow.Author.Needs.{needs}
 use Rattle.engine.proofs.ballot.breaks_rule.Statement.{statement}
 use Rattle.engine.proofs.ballot.breaks_rule.Tie as tie
 
 mul-at : tie.Need-mul-at
 mul-at c = search needs
-
-shared-slice-read-wide : tie.Need-shared-slice-read-wide
-shared-slice-read-wide c = search needs
-
-wide-requires : tie.Need-wide-requires
-wide-requires c κs = search needs
 
 add-phase-of : tie.Need-add-phase-of
 add-phase-of c = search needs
@@ -27,40 +22,25 @@ shared-slice-read-phase-of-2 c = search needs
 phase-of-requires : tie.Need-phase-of-requires
 phase-of-requires c κs = search needs
 
-add-obeys : tie.Need-add-obeys
-add-obeys c = search needs
+class-requires : tie.Need-class-requires
+class-requires c κs = search needs
 
-shared-slice-read-obeys : tie.Need-shared-slice-read-obeys
-shared-slice-read-obeys c = search needs
-
-add-obeys-2 : tie.Need-add-obeys-2
-add-obeys-2 c = search needs
-
-shared-slice-read-obeys-2 : tie.Need-shared-slice-read-obeys-2
-shared-slice-read-obeys-2 c = search needs
-
-obeys-requires : tie.Need-obeys-requires
-obeys-requires c κs = search needs
+breaks-of-class-requires : tie.Need-breaks-of-class-requires
+breaks-of-class-requires c κs = (c .class .ensures ∙ ap classOf (c .before .phase-of .ensures), c .before .before .before .before .before .pre)
 
 returns : tie.Need-returns
-unfolding breaksRule
-returns c = simp (c .before .before .before .phase-of .ensures, c .obeys .ensures, c .before .before .before .before .before .before .wide .ensures)
+returns c = search needs
 
 pub breaks-rule-spec : {M : Type 1} → statement M
 breaks-rule-spec =
     tie.close
     (tie.spec
     mul-at
-    shared-slice-read-wide
-    wide-requires
     add-phase-of
     shared-slice-read-phase-of
     add-phase-of-2
     shared-slice-read-phase-of-2
     phase-of-requires
-    add-obeys
-    shared-slice-read-obeys
-    add-obeys-2
-    shared-slice-read-obeys-2
-    obeys-requires
+    class-requires
+    breaks-of-class-requires
     returns)

@@ -1,7 +1,8 @@
-use borrow.Author.Tests.{lt-ltb, le-ltb}
-use mathlib.Core.Path.{sym, _∙_}
-use Rattle.rules.specs.Tick.{tickOf, tickNumber}
+use Rattle.engine.proofs.Listening.{Listened, list-clear, list-refused, ends-9, ends-10, ends, not-stepped, last-phase, has-stepped}
 use Rattle.rules.specs.Number.{firstThatApplies}
+use Rattle.rules.specs.Tick.{tickOf, tickNumber}
+use mathlib.Core.Path.{sym, _∙_}
+use borrow.Author.Tests.{lt-ltb, le-ltb, not-true, not-false}
 use borrow.Author.Needs.{needs}
 use Rattle.engine.proofs.ticks.tick.Statement.{statement}
 use Rattle.engine.proofs.ticks.tick.Tie as tie
@@ -33,81 +34,50 @@ returns-3 : tie.Need-returns-3
 unfolding tickOf tickNumber firstThatApplies
 returns-3 c = simp (← c .before .before .before .before .before .sound .ensures, c .before .before .before .before .if1 .left, le-ltb _ _ (c .before .before .before .if2 .left), ← c .before .before .not-list .ensures, c .before .if3 .taken, c .refused3 .ensures)
 
-first-breaking-requires : tie.Need-first-breaking-requires
-first-breaking-requires c κs = search needs
+listened-requires : tie.Need-listened-requires
+listened-requires c κs = sym (c .before .before .before .before .sound .ensures) ∙ not-false _ (c .before .before .before .if1 .left)
 
 refused-requires-4 : tie.Need-refused-requires-4
 refused-requires-4 c κs = search needs
 
 returns-4 : tie.Need-returns-4
-unfolding tickOf tickNumber firstThatApplies
-returns-4 c = simp (← c .before .before .before .before .before .before .before .sound .ensures, c .before .before .before .before .before .before .if1 .left, le-ltb _ _ (c .before .before .before .before .before .if2 .left), ← c .before .before .before .before .not-list .ensures, c .before .before .before .if3 .left, ← c .before .before .first-breaking .ensures, lt-ltb _ _ (c .before .if4 .taken), c .refused4 .ensures)
+returns-4 c = c .refused4 .ensures ∙ list-refused _ _ _ _ (sym (c .before .before .before .before .before .before .before .sound .ensures) ∙ not-false _ (c .before .before .before .before .before .before .if1 .left)) (le-ltb _ _ (c .before .before .before .before .before .if2 .left)) (sym (c .before .before .before .before .not-list .ensures) ∙ c .before .before .before .if3 .left) (c .before .before .listened .ensures) (c .before .if4 .taken)
 
-first-own-from-ahead-requires : tie.Need-first-own-from-ahead-requires
-first-own-from-ahead-requires c κs = search needs
+both-heard-requires : tie.Need-both-heard-requires
+both-heard-requires c κs = search needs
 
 refused-requires-5 : tie.Need-refused-requires-5
 refused-requires-5 c κs = search needs
 
 returns-5 : tie.Need-returns-5
-unfolding tickOf tickNumber firstThatApplies
-returns-5 c = simp (← c .before .before .before .before .before .before .before .before .before .sound .ensures, c .before .before .before .before .before .before .before .before .if1 .left, le-ltb _ _ (c .before .before .before .before .before .before .before .if2 .left), ← c .before .before .before .before .before .before .not-list .ensures, c .before .before .before .before .before .if3 .left, ← c .before .before .before .before .first-breaking .ensures, le-ltb _ _ (c .before .before .before .if4 .left), ← c .before .before .first-own-from-ahead .ensures, lt-ltb _ _ (c .before .if5 .taken), c .refused5 .ensures)
+returns-5 c = c .refused5 .ensures ∙ ends-9 _ _ _ _ (record { whole = sym (c .before .before .before .before .before .before .before .before .before .before .sound .ensures) ∙ not-false _ (c .before .before .before .before .before .before .before .before .before .if1 .left); bit = le-ltb _ _ (c .before .before .before .before .before .before .before .before .if2 .left); list = sym (c .before .before .before .before .before .before .before .not-list .ensures) ∙ c .before .before .before .before .before .before .if3 .left; clear = list-clear _ _ _ (c .before .before .before .before .before .listened .ensures) (c .before .before .before .before .if4 .left) }) (sym (c .before .before .both-heard .ensures) ∙ c .before .if5 .taken)
 
-first-contradicting-requires : tie.Need-first-contradicting-requires
-first-contradicting-requires c κs = search needs
+quorum-requires : tie.Need-quorum-requires
+quorum-requires c κs = search needs
+
+ended-requires : tie.Need-ended-requires
+ended-requires c κs = search needs
+
+returns-6 : tie.Need-returns-6
+returns-6 c = c .ended .ensures ∙ ends _ _ _ _ _ (record { whole = sym (c .before .before .before .before .before .before .before .before .before .before .before .before .sound .ensures) ∙ not-false _ (c .before .before .before .before .before .before .before .before .before .before .before .if1 .left); bit = le-ltb _ _ (c .before .before .before .before .before .before .before .before .before .before .if2 .left); list = sym (c .before .before .before .before .before .before .before .before .before .not-list .ensures) ∙ c .before .before .before .before .before .before .before .before .if3 .left; clear = list-clear _ _ _ (c .before .before .before .before .before .before .before .listened .ensures) (c .before .before .before .before .before .before .if4 .left) }) (sym (c .before .before .before .before .both-heard .ensures) ∙ c .before .before .before .if5 .left) (not-stepped _ _ (sym (c .before .before .quorum .ensures) ∙ not-true _ (c .before .if6 .taken)))
 
 refused-requires-6 : tie.Need-refused-requires-6
 refused-requires-6 c κs = search needs
 
-returns-6 : tie.Need-returns-6
-unfolding tickOf tickNumber firstThatApplies
-returns-6 c = simp (← c .before .before .before .before .before .before .before .before .before .before .before .sound .ensures, c .before .before .before .before .before .before .before .before .before .before .if1 .left, le-ltb _ _ (c .before .before .before .before .before .before .before .before .before .if2 .left), ← c .before .before .before .before .before .before .before .before .not-list .ensures, c .before .before .before .before .before .before .before .if3 .left, ← c .before .before .before .before .before .before .first-breaking .ensures, le-ltb _ _ (c .before .before .before .before .before .if4 .left), ← c .before .before .before .before .first-own-from-ahead .ensures, le-ltb _ _ (c .before .before .before .if5 .left), ← c .before .before .first-contradicting .ensures, lt-ltb _ _ (c .before .if6 .taken), c .refused6 .ensures)
-
-gathered-requires : tie.Need-gathered-requires
-gathered-requires c κs = search needs
-
-both-heard-requires : tie.Need-both-heard-requires
-both-heard-requires c κs = search needs
-
-refused-requires-7 : tie.Need-refused-requires-7
-refused-requires-7 c κs = search needs
-
 returns-7 : tie.Need-returns-7
-unfolding tickOf tickNumber firstThatApplies
-returns-7 c = simp (← c .before .before .before .before .before .before .before .before .before .before .before .before .before .before .sound .ensures, c .before .before .before .before .before .before .before .before .before .before .before .before .before .if1 .left, le-ltb _ _ (c .before .before .before .before .before .before .before .before .before .before .before .before .if2 .left), ← c .before .before .before .before .before .before .before .before .before .before .before .not-list .ensures, c .before .before .before .before .before .before .before .before .before .before .if3 .left, ← c .before .before .before .before .before .before .before .before .before .first-breaking .ensures, le-ltb _ _ (c .before .before .before .before .before .before .before .before .if4 .left), ← c .before .before .before .before .before .before .before .first-own-from-ahead .ensures, le-ltb _ _ (c .before .before .before .before .before .before .if5 .left), ← c .before .before .before .before .before .first-contradicting .ensures, le-ltb _ _ (c .before .before .before .before .if6 .left), ← c .before .before .before .gathered .ensures, ← c .before .before .both-heard .ensures, c .before .if7 .taken, c .refused7 .ensures)
+returns-7 c = c .refused6 .ensures ∙ ends-10 _ _ _ _ (record { whole = sym (c .before .before .before .before .before .before .before .before .before .before .before .before .before .before .sound .ensures) ∙ not-false _ (c .before .before .before .before .before .before .before .before .before .before .before .before .before .if1 .left); bit = le-ltb _ _ (c .before .before .before .before .before .before .before .before .before .before .before .before .if2 .left); list = sym (c .before .before .before .before .before .before .before .before .before .before .before .not-list .ensures) ∙ c .before .before .before .before .before .before .before .before .before .before .if3 .left; clear = list-clear _ _ _ (c .before .before .before .before .before .before .before .before .before .listened .ensures) (c .before .before .before .before .before .before .before .before .if4 .left) }) (sym (c .before .before .before .before .before .before .both-heard .ensures) ∙ c .before .before .before .before .before .if5 .left) (last-phase _ (sym (c .before .before .before .before .quorum .ensures) ∙ not-false _ (c .before .before .before .if6 .left)) (c .before .if7 .taken))
 
-phases-end-requires : tie.Need-phases-end-requires
-phases-end-requires c κs = search needs
+cast-risen : tie.Need-cast-risen
+cast-risen c = search needs
 
-refused-requires-8 : tie.Need-refused-requires-8
-refused-requires-8 c κs = search needs
+risen-requires : tie.Need-risen-requires
+risen-requires c κs = c .if7 .left
+
+ended-requires-2 : tie.Need-ended-requires-2
+ended-requires-2 c κs = search needs
 
 returns-8 : tie.Need-returns-8
-unfolding tickOf tickNumber firstThatApplies
-returns-8 c = simp (← c .before .before .before .before .before .before .before .before .before .before .before .before .before .before .before .before .sound .ensures, c .before .before .before .before .before .before .before .before .before .before .before .before .before .before .before .if1 .left, le-ltb _ _ (c .before .before .before .before .before .before .before .before .before .before .before .before .before .before .if2 .left), ← c .before .before .before .before .before .before .before .before .before .before .before .before .before .not-list .ensures, c .before .before .before .before .before .before .before .before .before .before .before .before .if3 .left, ← c .before .before .before .before .before .before .before .before .before .before .before .first-breaking .ensures, le-ltb _ _ (c .before .before .before .before .before .before .before .before .before .before .if4 .left), ← c .before .before .before .before .before .before .before .before .before .first-own-from-ahead .ensures, le-ltb _ _ (c .before .before .before .before .before .before .before .before .if5 .left), ← c .before .before .before .before .before .before .before .first-contradicting .ensures, le-ltb _ _ (c .before .before .before .before .before .before .if6 .left), ← c .before .before .before .before .before .gathered .ensures, ← c .before .before .before .before .both-heard .ensures, c .before .before .before .if7 .left, ← c .before .before .phases-end .ensures, c .before .if8 .taken, c .refused8 .ensures)
-
-cast-stepped : tie.Need-cast-stepped
-cast-stepped c = search needs
-
-stepped-requires : tie.Need-stepped-requires
-stepped-requires c κs = sym (c .before .phases-end .ensures) ∙ c .if8 .left
-
-decides-otherwise-requires : tie.Need-decides-otherwise-requires
-decides-otherwise-requires c κs = search needs
-
-refused-requires-9 : tie.Need-refused-requires-9
-refused-requires-9 c κs = search needs
-
-returns-9 : tie.Need-returns-9
-unfolding tickOf tickNumber firstThatApplies
-returns-9 c = simp (← c .before .before .before .before .before .before .before .before .before .before .before .before .before .before .before .before .before .before .before .sound .ensures, c .before .before .before .before .before .before .before .before .before .before .before .before .before .before .before .before .before .before .if1 .left, le-ltb _ _ (c .before .before .before .before .before .before .before .before .before .before .before .before .before .before .before .before .before .if2 .left), ← c .before .before .before .before .before .before .before .before .before .before .before .before .before .before .before .before .not-list .ensures, c .before .before .before .before .before .before .before .before .before .before .before .before .before .before .before .if3 .left, ← c .before .before .before .before .before .before .before .before .before .before .before .before .before .before .first-breaking .ensures, le-ltb _ _ (c .before .before .before .before .before .before .before .before .before .before .before .before .before .if4 .left), ← c .before .before .before .before .before .before .before .before .before .before .before .before .first-own-from-ahead .ensures, le-ltb _ _ (c .before .before .before .before .before .before .before .before .before .before .before .if5 .left), ← c .before .before .before .before .before .before .before .before .before .before .first-contradicting .ensures, le-ltb _ _ (c .before .before .before .before .before .before .before .before .before .if6 .left), ← c .before .before .before .before .before .before .before .before .gathered .ensures, ← c .before .before .before .before .before .before .before .both-heard .ensures, c .before .before .before .before .before .before .if7 .left, ← c .before .before .before .before .before .phases-end .ensures, c .before .before .before .before .if8 .left, ← c .before .before .before .stepped .ensures, ← c .before .before .decides-otherwise .ensures, c .before .if9 .taken, c .refused9 .ensures)
-
-settled-requires : tie.Need-settled-requires
-settled-requires c κs = search needs
-
-returns-10 : tie.Need-returns-10
-unfolding tickOf tickNumber firstThatApplies
-returns-10 c = simp (← c .before .before .before .before .before .before .before .before .before .before .before .before .before .before .before .before .before .before .before .sound .ensures, c .before .before .before .before .before .before .before .before .before .before .before .before .before .before .before .before .before .before .if1 .left, le-ltb _ _ (c .before .before .before .before .before .before .before .before .before .before .before .before .before .before .before .before .before .if2 .left), ← c .before .before .before .before .before .before .before .before .before .before .before .before .before .before .before .before .not-list .ensures, c .before .before .before .before .before .before .before .before .before .before .before .before .before .before .before .if3 .left, ← c .before .before .before .before .before .before .before .before .before .before .before .before .before .before .first-breaking .ensures, le-ltb _ _ (c .before .before .before .before .before .before .before .before .before .before .before .before .before .if4 .left), ← c .before .before .before .before .before .before .before .before .before .before .before .before .first-own-from-ahead .ensures, le-ltb _ _ (c .before .before .before .before .before .before .before .before .before .before .before .if5 .left), ← c .before .before .before .before .before .before .before .before .before .before .first-contradicting .ensures, le-ltb _ _ (c .before .before .before .before .before .before .before .before .before .if6 .left), ← c .before .before .before .before .before .before .before .before .gathered .ensures, ← c .before .before .before .before .before .before .before .both-heard .ensures, c .before .before .before .before .before .before .if7 .left, ← c .before .before .before .before .before .phases-end .ensures, c .before .before .before .before .if8 .left, ← c .before .before .before .stepped .ensures, ← c .before .before .decides-otherwise .ensures, c .before .if9 .left, c .settled .ensures)
+returns-8 c = c .ended2 .ensures ∙ ends _ _ _ _ _ (record { whole = sym (c .before .before .before .before .before .before .before .before .before .before .before .before .before .before .before .sound .ensures) ∙ not-false _ (c .before .before .before .before .before .before .before .before .before .before .before .before .before .before .if1 .left); bit = le-ltb _ _ (c .before .before .before .before .before .before .before .before .before .before .before .before .before .if2 .left); list = sym (c .before .before .before .before .before .before .before .before .before .before .before .before .not-list .ensures) ∙ c .before .before .before .before .before .before .before .before .before .before .before .if3 .left; clear = list-clear _ _ _ (c .before .before .before .before .before .before .before .before .before .before .listened .ensures) (c .before .before .before .before .before .before .before .before .before .if4 .left) }) (sym (c .before .before .before .before .before .before .before .both-heard .ensures) ∙ c .before .before .before .before .before .before .if5 .left) (has-stepped _ _ _ (sym (c .before .before .before .before .before .quorum .ensures) ∙ not-false _ (c .before .before .before .before .if6 .left)) (c .before .before .if7 .left) (c .before .risen .ensures))
 
 pub tick-spec : {M : Type 1} → statement M
 tick-spec =
@@ -121,26 +91,18 @@ tick-spec =
     not-list-requires
     refused-requires-3
     returns-3
-    first-breaking-requires
+    listened-requires
     refused-requires-4
     returns-4
-    first-own-from-ahead-requires
+    both-heard-requires
     refused-requires-5
     returns-5
-    first-contradicting-requires
-    refused-requires-6
+    quorum-requires
+    ended-requires
     returns-6
-    gathered-requires
-    both-heard-requires
-    refused-requires-7
+    refused-requires-6
     returns-7
-    phases-end-requires
-    refused-requires-8
-    returns-8
-    cast-stepped
-    stepped-requires
-    decides-otherwise-requires
-    refused-requires-9
-    returns-9
-    settled-requires
-    returns-10)
+    cast-risen
+    risen-requires
+    ended-requires-2
+    returns-8)
