@@ -26,28 +26,28 @@ pub fn tick(head: Head, ballots: &[u8], coin: u32) -> Ticked
     ensures { λ r. ⌜ r ≡ tickOf head (now (ballots .entry)) coin ⌝ }
 {
     if !sound(head) {
-        return refused(3, head);
+        return answer(3, head);
     }
     if 1 < coin {
-        return refused(4, head);
+        return answer(4, head);
     }
     if not_list(ballots) {
-        return refused(5, head);
+        return answer(5, head);
     }
     let listened = listened(head, ballots);
     let number = listened.number;
     if number != 0 {
-        return refused(number, head);
+        return answer(number, head);
     }
     let heard = listened.head;
     if both_heard(heard) {
-        return refused(9, head);
+        return answer(9, head);
     }
     if !quorum(heard) {
         return ended(head, heard);
     }
     if 65535 <= heard.phase {
-        return refused(10, head);
+        return answer(10, head);
     }
     ended(head, risen(heard, coin as u8))
 }
@@ -57,9 +57,9 @@ fn ended(head: Head, end: Head) -> Ticked
     ensures { λ r. ⌜ r ≡ cond (decidesOtherwise end) (record { number = 11; head = head }) (record { number = 0; head = settledOf end }) ⌝ }
 {
     if decides_otherwise(end) {
-        return refused(11, head);
+        return answer(11, head);
     }
-    refused(0, settled(end))
+    answer(0, settled(end))
 }
 
 // Numbers 6 to 8; where none of them applies, the head after steps 1 and 2.
@@ -68,16 +68,16 @@ fn listened(head: Head, ballots: &[u8]) -> Ticked
     ensures { λ r. ⌜ r ≡ listenedOf head (now (ballots .entry)) ⌝ }
 {
     if ballots.len() == 0 {
-        return refused(0, head);
+        return answer(0, head);
     }
     let seen = looked(head, ballots);
     if !is_plain(head, seen) {
         return searched(head, ballots);
     }
     if seen.above {
-        return refused(0, gathered(head, ballots));
+        return answer(0, gathered(head, ballots));
     }
-    refused(0, shown(head, seen))
+    answer(0, shown(head, seen))
 }
 
 // The same for any list, with a search for each number.
@@ -86,18 +86,18 @@ fn searched(head: Head, ballots: &[u8]) -> Ticked
 {
     let count = ballots.len() / 5;
     if first_breaking(head.n, ballots) < count {
-        return refused(6, head);
+        return answer(6, head);
     }
     if first_own_from_ahead(head, ballots) < count {
-        return refused(7, head);
+        return answer(7, head);
     }
     if first_contradicting(head, ballots) < count {
-        return refused(8, head);
+        return answer(8, head);
     }
-    refused(0, gathered(head, ballots))
+    answer(0, gathered(head, ballots))
 }
 
-fn refused(number: u8, head: Head) -> Ticked
+fn answer(number: u8, head: Head) -> Ticked
     ensures { λ r. ⌜ r ≡ record { number = number; head = head } ⌝ }
 {
     Ticked {

@@ -5,28 +5,28 @@ use Rattle.engine.proofs.ticks.ended.Tie as tie
 decides-otherwise-requires : tie.Need-decides-otherwise-requires
 decides-otherwise-requires c κs = search needs
 
-refused-requires : tie.Need-refused-requires
-refused-requires c κs = search needs
+answer-requires : tie.Need-answer-requires
+answer-requires c κs = search needs
 
 returns : tie.Need-returns
-returns c = simp (← c .before .before .decides-otherwise .ensures, c .before .if1 .taken, c .refused .ensures)
+returns c = simp (← c .before .before .decides-otherwise .ensures, c .before .if1 .taken, c .answer .ensures)
 
 settled-requires : tie.Need-settled-requires
 settled-requires c κs = search needs
 
-refused-requires-2 : tie.Need-refused-requires-2
-refused-requires-2 c κs = search needs
+answer-requires-2 : tie.Need-answer-requires-2
+answer-requires-2 c κs = search needs
 
 returns-2 : tie.Need-returns-2
-returns-2 c = simp (← c .before .before .before .decides-otherwise .ensures, c .before .before .if1 .left, c .refused2 .ensures, c .before .settled .ensures)
+returns-2 c = simp (← c .before .before .before .decides-otherwise .ensures, c .before .before .if1 .left, c .answer2 .ensures, c .before .settled .ensures)
 
 pub ended-spec : {M : Type 1} → statement M
 ended-spec =
     tie.close
     (tie.spec
     decides-otherwise-requires
-    refused-requires
+    answer-requires
     returns
     settled-requires
-    refused-requires-2
+    answer-requires-2
     returns-2)
