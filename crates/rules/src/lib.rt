@@ -1,5 +1,5 @@
 // The nouns of document 01, 'Heads and ballots'. Their meaning stands in specs/, what follows
-// from it in proofs/. No function stands here: the code that uses these types is `vote`.
+// from it in proofs/. No function stands here: `codes`, `engine` and `vote` have the code.
 
 // "a ballot carries a value that is 0, 1 or blank"
 pub enum Value {
