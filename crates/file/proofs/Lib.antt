@@ -4,6 +4,9 @@ pub mod Exactly
 pub mod Placing
 pub mod BenchIsRun
 pub mod Decimals
+pub mod Computing
 pub mod PrintedCase
+pub mod AFewReports
+pub mod RefusedFiles
 pub mod FirstBytes
 pub mod TheBench

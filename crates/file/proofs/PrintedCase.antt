@@ -3,12 +3,9 @@ use Prim.Native.Nat.{ℕ}
 use mathlib.Core.Path.{_≡_, refl}
 use mathlib.Core.List.{List, [], _∷_, _++_}
 use lib.ListN.{replicate}
-use Rattle.rules.proofs.Computing.{computing}
-use Rattle.file.specs.Section.{counted, unlessBroken, checked, proposalsOf, neededOf, lossesOf, coinsOf}
-use Rattle.file.specs.Plan.{closed, afterLosses, afterNeeded, afterProposals, planOf}
-use Rattle.file.specs.Table.{placed, roundIn, roundsIn, tableAfter}
-use Rattle.file.specs.Figures.{lostIn, boundOf, outcomeIn, outcomeOf}
-use Rattle.file.specs.Report.{word, decimal, firstLine, headLine, headLines, lastLine, linesOf, reportOf}
+use Rattle.file.specs.Figures.{boundOf}
+use Rattle.file.specs.Report.{word, reportOf}
+use Rattle.file.proofs.Computing.{reporting}
 
 -- "00 03 01 01 00, 00 01 02, 00 02 and 24 zeros, 00 06 and 6 zeros"
 abbrev pub printedCase : List ℕ
@@ -20,7 +17,7 @@ pub it-prints : reportOf printedCase ≡
     ++ word "head 1 phase 3 value 1 status decided decision 1\n"
     ++ word "head 2 phase 3 value 1 status decided decision 1\n"
     ++ word "rounds 2 good 2 decided 3\n"
-unfolding computing counted unlessBroken checked proposalsOf neededOf lossesOf coinsOf closed afterLosses afterNeeded afterProposals planOf placed roundIn roundsIn tableAfter lostIn boundOf outcomeIn outcomeOf decimal firstLine headLine headLines lastLine linesOf
+unfolding reporting
 it-prints = refl
 
 -- "n 3, k 2 gives 2; n 4, k 3 gives 3; n 2, k 2 gives 0; n 32, k 17 gives 255"
