@@ -1,19 +1,17 @@
--- Parts of a list of bytes: what a clamped part holds, and what five stores leave.
-use Prim.Native.Nat.{ℕ, suc, _+_, _-_, _*_, _/_, _%_, _≤_, _<_, min}
-use mathlib.Core.Path.{_≡_, refl, sym, ap, _∙_}
-use mathlib.Core.List.{List, [], _∷_, _++_, append-nil}
-use mathlib.Core.Bool.{Bool, true, false}
+-- Parts of a list of bytes: what a clamped part holds, and ballots of five bytes in it.
+use Prim.Native.Nat.{ℕ, suc, _+_, _-_, _*_, _≤_, _<_, min}
+use mathlib.Core.Path.{_≡_, refl, sym, ap, ap₂, _∙_}
+use mathlib.Core.List.{List, [], _∷_, _++_, append-assoc, append-nil}
+use mathlib.Core.Bool.{Bool, true, false, cond}
 use native.Mathlib.Decide.{decLt}
 use native.Mathlib.Nat.{mul-le-mul}
 use native.Mathlib.Omega.{arith}
-use lib.ListN.{length, take, drop, set, length-take, length-drop, length-append, length-set, drop-of-length-le}
-use lib.Seq.{take-all, take-length, drop-length, take-set-le, take-at, sets, sets-eq, length-take-le}
-use Rattle.rules.specs.declared.Ballot.{Ballot}
-use Rattle.rules.specs.Ballot.{valueCode, statusCode}
+use lib.ListN.{length, getD, take, drop, set, length-take, length-drop, drop-of-length-le}
+use lib.Seq.{take-all, take-length, drop-length, drop-cons, take-append-seam, take-set-le, drop-set-add, take-add, drop-at, sets, sets-eq, length-take-le}
 use Rattle.file.specs.declared.Section.{Section}
 use Rattle.file.specs.declared.Section.the-variants.{Body, Refused}
 use Rattle.file.specs.Section.{bodyOf}
-use Rattle.run.specs.Survey.{keptBytes, withHeard}
+use Rattle.run.specs.Survey.{keptBytes}
 use Rattle.run.specs.Sections.{Near}
 
 take-least : (size : ℕ) (xs : List ℕ) → take (min size (length xs)) xs ≡ take size xs
@@ -50,23 +48,13 @@ part-short start size xs = omega (arith, length-take size (drop start xs))
 pub place-small : (r n : ℕ) → r < 256 → n ≤ 32 → r * n ≤ 8192
 place-small r n a b = let few : r ≤ 256 = omega arith in mul-le-mul few b
 
--- ---- a list of ballots grows by one
+-- ---- ballots of five bytes, one after the other
 
 -- five stores, one after the other
-abbrev stores : List ℕ → ℕ → ℕ → ℕ → ℕ → ℕ → ℕ → List ℕ
+abbrev pub stores : List ℕ → ℕ → ℕ → ℕ → ℕ → ℕ → ℕ → List ℕ
 stores l at v w x y z = set (set (set (set (set l at v) (at + 1) w) (at + 2) x) (at + 3) y) (at + 4) z
 
-pub stored-length : (l : List ℕ) (at v w x y z : ℕ) → length (stores l at v w x y z) ≡ length l
-stored-length l at v w x y z = rw (length-set _ (at + 4) z, length-set _ (at + 3) y, length-set _ (at + 2) x, length-set _ (at + 1) w, length-set _ at v) refl
-
--- they leave what stands before them
-stored-before : (l : List ℕ) (at v w x y z : ℕ) → take at (stores l at v w x y z) ≡ take at l
-stored-before l at v w x y z =
-    take-set-le at _ (at + 4) z (omega arith) ∙ take-set-le at _ (at + 3) y (omega arith) ∙ take-set-le at _ (at + 2) x (omega arith)
-    ∙ take-set-le at _ (at + 1) w (omega arith) ∙ take-set-le at l at v (omega arith)
-
--- and put five bytes after it
-stored : (l : List ℕ) (at v w x y z : ℕ) → stores l at v w x y z ≡ sets l at (v ∷ w ∷ x ∷ y ∷ z ∷ [])
+pub stored : (l : List ℕ) (at v w x y z : ℕ) → stores l at v w x y z ≡ sets l at (v ∷ w ∷ x ∷ y ∷ z ∷ [])
 stored l at v w x y z =
     let one : at + 1 ≡ suc at = omega arith in
     let two : at + 2 ≡ suc (suc at) = omega arith in
@@ -74,28 +62,39 @@ stored l at v w x y z =
     let four : at + 4 ≡ suc (suc (suc (suc at))) = omega arith in
     rw (one, two, three, four) refl
 
-stored-after : (l : List ℕ) (at v w x y z : ℕ) → at + 5 ≤ length l → take (at + 5) (stores l at v w x y z) ≡ take at l ++ (v ∷ w ∷ x ∷ y ∷ z ∷ [])
-stored-after l at v w x y z h =
-    ap (take (at + 5)) (stored l at v w x y z ∙ sets-eq five l at h) ∙ take-at (take at l ++ five) (drop (at + 5) l) (at + 5) front
-  where
-    five : List ℕ
-    five = v ∷ w ∷ x ∷ y ∷ z ∷ []
+-- they leave what stands before them
+pub sets-before : (vs l : List ℕ) (many from at : ℕ) → from + many ≤ at → take many (drop from (sets l at vs)) ≡ take many (drop from l)
+sets-before [] l many from at h = refl
+sets-before (v ∷ vs) l many from at h =
+    let e : from + (at - from) ≡ at = omega arith in
+    sets-before vs (set l at v) many from (suc at) (omega arith)
+    ∙ ap (λ (i : ℕ). take many (drop from (set l i v))) (sym e)
+    ∙ ap (take many) (drop-set-add from l (at - from) v)
+    ∙ take-set-le many (drop from l) (at - from) v (omega arith)
 
-    front : length (take at l ++ five) ≡ at + 5
-    front = length-append (take at l) five ∙ ap (λ (k : ℕ). k + 5) (length-take-le at l (omega arith))
+-- and are found where they were put
+pub sets-at : (vs l : List ℕ) (at : ℕ) → at + length vs ≤ length l → take (length vs) (drop at (sets l at vs)) ≡ vs
+sets-at vs l at h =
+    ap (λ (x : List ℕ). take (length vs) (drop at x)) (sets-eq vs l at h ∙ append-assoc (take at l) vs (drop (at + length vs) l))
+    ∙ ap (take (length vs)) (drop-at (take at l) (vs ++ drop (at + length vs) l) at (length-take-le at l (omega arith)))
+    ∙ take-append-seam vs (drop (at + length vs) l)
 
--- a ballot's five bytes, kept or lost
-kept-or-lost : (l : List ℕ) (at : ℕ) (b : Ballot) (lost : Bool) → at + 5 ≤ length l
-    → take (at + keptBytes lost) (stores l at (b .sender) (valueCode (b .value)) (statusCode (b .status)) (b .phase / 256) (b .phase % 256)) ≡ withHeard (take at l) b lost
-kept-or-lost l at b true h =
+-- five bytes, each read at its place
+pub five-is : (l : List ℕ) (at : ℕ) → at + 5 ≤ length l → getD l at 0 ∷ getD l (at + 1) 0 ∷ getD l (at + 2) 0 ∷ getD l (at + 3) 0 ∷ getD l (at + 4) 0 ∷ [] ≡ take 5 (drop at l)
+five-is l at h =
+    let one : at + 1 ≡ suc at = omega arith in
+    let two : at + 2 ≡ suc (suc at) = omega arith in
+    let three : at + 3 ≡ suc (suc (suc at)) = omega arith in
+    let four : at + 4 ≡ suc (suc (suc (suc at))) = omega arith in
+    rw (one, two, three, four) (sym (ap (take 5) (drop-cons l at 0 (omega arith) ∙ ap (λ (r : List ℕ). getD l at 0 ∷ r) (drop-cons l (suc at) 0 (omega arith) ∙ ap (λ (r : List ℕ). getD l (suc at) 0 ∷ r) (drop-cons l (suc (suc at)) 0 (omega arith) ∙ ap (λ (r : List ℕ). getD l (suc (suc at)) 0 ∷ r) (drop-cons l (suc (suc (suc at))) 0 (omega arith) ∙ ap (λ (r : List ℕ). getD l (suc (suc (suc at))) 0 ∷ r) (drop-cons l (suc (suc (suc (suc at)))) 0 (omega arith))))))))
+
+-- a list of ballots and one more, kept or lost
+pub kept-or-lost : (five l : List ℕ) (at : ℕ) (lost : Bool) → length five ≡ 5 → at + 5 ≤ length l → take (at + keptBytes lost) (sets l at five) ≡ take at l ++ cond lost [] five
+kept-or-lost five l at true many h =
     let none : at + 0 ≡ at = omega arith in
-    ap (λ (k : ℕ). take k (stores l at (b .sender) (valueCode (b .value)) (statusCode (b .status)) (b .phase / 256) (b .phase % 256))) none ∙ stored-before l at _ _ _ _ _ ∙ sym (append-nil (take at l))
-kept-or-lost l at b false h = stored-after l at _ _ _ _ _ h
-
-pub heard-or-lost : (l : List ℕ) (at v s high low kept : ℕ) (b : Ballot) (lost : Bool) → at + 5 ≤ length l
-    → v ≡ valueCode (b .value) → s ≡ statusCode (b .status) → high ≡ b .phase / 256 → low ≡ b .phase % 256 → kept ≡ keptBytes lost
-    → take (at + kept) (stores l at (b .sender) v s high low) ≡ withHeard (take at l) b lost
-heard-or-lost l at v s high low kept b lost h x y z w k = rw (x, y, z, w, k) (kept-or-lost l at b lost h)
+    ap (λ (k : ℕ). take k (sets l at five)) none ∙ sets-before five l at 0 at (omega arith) ∙ sym (append-nil (take at l))
+kept-or-lost five l at false many h =
+    take-add at 5 (sets l at five) ∙ ap₂ (λ (a b : List ℕ). a ++ b) (sets-before five l at 0 at (omega arith)) (ap (λ (k : ℕ). take k (drop at (sets l at five))) (sym many) ∙ sets-at five l at (omega (arith, many)))
 
 -- ---- a section's body
 

@@ -1,29 +1,30 @@
 -- What a survey shows: the ballots of the heads, and how many are decided; and so a round of the code is a round of document
 -- 01.
 use Prim.Native.Nat.{ℕ, zero, suc, _+_, _*_, _≤_, _<_}
-use mathlib.Core.Path.{_≡_, refl, ap₂, _∙_}
-use mathlib.Core.List.{List}
-use mathlib.Core.Bool.{cond}
+use mathlib.Core.Path.{_≡_, refl, sym, ap, ap₂, _∙_}
+use mathlib.Core.List.{List, [], _++_}
+use mathlib.Core.Bool.{Bool, cond}
 use native.Mathlib.Decide.{ℕ-discrete}
 use native.Mathlib.Omega.{arith}
-use lib.ListN.{length, getD, set, length-set, length-replicate}
+use lib.ListN.{length, getD, set, take, length-replicate}
 use lib.Dec.{eqb}
-use lib.Seq.{getD-set-same, getD-set-other}
+use lib.Seq.{getD-set-other, take-add, sets, length-sets}
 use Rattle.rules.specs.declared.Status.{Status}
 use Rattle.rules.specs.declared.Status.the-variants.{Undecided, Decided}
-use Rattle.rules.specs.declared.Ballot.{Ballot}
 use Rattle.rules.specs.declared.Head.{Head}
 use Rattle.rules.specs.Below.{count}
-use Rattle.rules.specs.Ballot.{statusCode, zeroBallot}
+use Rattle.rules.specs.Ballot.{statusCode, bytesOf}
 use Rattle.rules.specs.Heard.{member}
 use Rattle.rules.specs.Head.{zeroHead, isDecided, ballotOf}
 use Rattle.rules.specs.Tick.{tickOf}
 use Rattle.rules.specs.Record.{wordAt}
 use Rattle.rules.proofs.Below.{count-le}
+use Rattle.rules.proofs.Sets.{member-none}
 use Rattle.file.specs.Table.{headOf, placed, receivedIn, tickedIn, roundIn}
 use Rattle.file.specs.Figures.{decidedIn}
 use Rattle.run.specs.declared.heads.Survey.{Survey}
-use Rattle.run.specs.Survey.{noted, surveyOf, withHeard, receivedFrom, tickedBy, tickedAll}
+use Rattle.run.specs.Survey.{noted, surveyOf, fiveAt, receivedFrom, tickedBy, tickedAll}
+use Rattle.run.proofs.Parts.{sets-before, sets-at}
 
 -- ---- how many are decided
 
@@ -44,30 +45,41 @@ survey-decided k table = omega (arith, survey-counts k table, count-le k (λ s. 
 
 -- ---- the ballots
 
-ballots-length : (k : ℕ) (table : List Head) → length (surveyOf k table .ballots) ≡ 32
+ballots-length : (k : ℕ) (table : List Head) → length (surveyOf k table .ballots) ≡ 160
 unfolding surveyOf noted
-ballots-length zero table = length-replicate 32 zeroBallot
-ballots-length (suc k) table = length-set (surveyOf k table .ballots) k (ballotOf (headOf table k)) ∙ ballots-length k table
+ballots-length zero table = length-replicate {A = ℕ} 160 0
+ballots-length (suc k) table = length-sets (surveyOf k table .ballots) (k * 5) (bytesOf (ballotOf (headOf table k))) ∙ ballots-length k table
 
 -- each head's ballot is at its number
-shows-ballot : (k : ℕ) (table : List Head) (s : ℕ) → s < k → k ≤ 32 → getD (surveyOf k table .ballots) s zeroBallot ≡ ballotOf (headOf table s)
+shows-ballot : (k : ℕ) (table : List Head) (s : ℕ) → s < k → k ≤ 32 → fiveAt (surveyOf k table .ballots) s ≡ bytesOf (ballotOf (headOf table s))
 unfolding surveyOf noted
 shows-ballot zero table s h small = absurd (omega arith)
 shows-ballot (suc k) table s h small = go (ℕ-discrete s k) (shows-ballot k table s)
   where
-    before : List Ballot
+    before : List ℕ
     before = surveyOf k table .ballots
 
-    go : Dec (s ≡ k) → (s < k → k ≤ 32 → getD before s zeroBallot ≡ ballotOf (headOf table s)) → getD (set before k (ballotOf (headOf table k))) s zeroBallot ≡ ballotOf (headOf table s)
-    go (yes e) f = rw e (getD-set-same before k (ballotOf (headOf table k)) zeroBallot (omega (arith, ballots-length k table)))
-    go (no e) f = getD-set-other before k s (ballotOf (headOf table k)) zeroBallot e ∙ f (omega (arith, e)) (omega arith)
+    five : List ℕ
+    five = bytesOf (ballotOf (headOf table k))
+
+    go : Dec (s ≡ k) → (s < k → k ≤ 32 → fiveAt before s ≡ bytesOf (ballotOf (headOf table s))) → fiveAt (sets before (k * 5) five) s ≡ bytesOf (ballotOf (headOf table s))
+    go (yes e) f = rw e (sets-at five before (k * 5) (omega (arith, ballots-length k table)))
+    go (no e) f = sets-before five before 5 (s * 5) (k * 5) (omega (arith, e)) ∙ f (omega (arith, e)) (omega arith)
 
 -- so what is received from the survey is what is received from the heads
 received-is : (n : ℕ) (table : List Head) (lost k : ℕ) → k ≤ n → n ≤ 32 → receivedFrom (surveyOf n table .ballots) lost k ≡ receivedIn table lost k
 unfolding receivedFrom
 received-is n table lost zero h small = refl
 received-is n table lost (suc k) h small =
-    ap₂ (λ (list : List ℕ) (b : Ballot). withHeard list b (member k lost)) (received-is n table lost k (omega arith) small) (shows-ballot n table k h small)
+    ap₂ (λ (list five : List ℕ). list ++ cond (member k lost) [] five) (received-is n table lost k (omega arith) small) (shows-ballot n table k h small)
+
+-- where none is lost, all are received
+pub all-received : (ballots : List ℕ) (k : ℕ) → receivedFrom ballots 0 k ≡ take (k * 5) ballots
+unfolding receivedFrom
+all-received ballots zero = refl
+all-received ballots (suc k) =
+    let more : suc k * 5 ≡ k * 5 + 5 = omega arith in
+    ap₂ (λ (list : List ℕ) (lost : Bool). list ++ cond lost [] (fiveAt ballots k)) (all-received ballots k) (member-none k) ∙ sym (ap (λ (m : ℕ). take m ballots) more ∙ take-add (k * 5) 5 ballots)
 
 -- ---- the ticks
 

@@ -3,10 +3,10 @@
 use Prim.Native.Nat.{ℕ, zero, suc, _+_, _*_}
 use mathlib.Core.List.{List, [], _++_}
 use mathlib.Core.Bool.{Bool, cond}
-use lib.ListN.{getD, set, replicate}
-use Rattle.rules.specs.declared.Ballot.{Ballot}
+use lib.ListN.{getD, set, take, drop, replicate}
+use lib.Seq.{sets}
 use Rattle.rules.specs.declared.Head.{Head}
-use Rattle.rules.specs.Ballot.{statusCode, bytesOf, zeroBallot}
+use Rattle.rules.specs.Ballot.{statusCode, bytesOf}
 use Rattle.rules.specs.Heard.{member}
 use Rattle.rules.specs.Head.{ballotOf}
 use Rattle.rules.specs.Tick.{tickOf}
@@ -15,12 +15,12 @@ use Rattle.file.specs.Table.{headOf}
 use Rattle.run.specs.declared.heads.Survey.{Survey}
 
 abbrev pub noSurvey : Survey
-noSurvey = record { ballots = replicate 32 zeroBallot; decided = 0 }
+noSurvey = record { ballots = replicate 160 0; decided = 0 }
 
 -- a survey with head i in it
 unfoldable pub noted : Survey → ℕ → Head → Survey
 noted before i h =
-    record { ballots = set (before .ballots) i (ballotOf h); decided = before .decided + statusCode (h .status) }
+    record { ballots = sets (before .ballots) (i * 5) (bytesOf (ballotOf h)); decided = before .decided + statusCode (h .status) }
 
 -- of the first k heads of a table
 unfoldable pub surveyOf : ℕ → List Head → Survey
@@ -31,14 +31,14 @@ surveyOf (suc k) table = noted (surveyOf k table) k (headOf table k)
 abbrev pub keptBytes : Bool → ℕ
 keptBytes lost = cond lost 0 5
 
--- a list of ballots, and one more unless it is lost
-abbrev pub withHeard : List ℕ → Ballot → Bool → List ℕ
-withHeard list ballot lost = list ++ cond lost [] (bytesOf ballot)
+-- the bytes of ballot k
+abbrev pub fiveAt : List ℕ → ℕ → List ℕ
+fiveAt ballots k = take 5 (drop (k * 5) ballots)
 
--- the first k of the ballots that are not lost, in sender order
-unfoldable pub receivedFrom : List Ballot → ℕ → ℕ → List ℕ
+-- those of the first k ballots that are not lost, in sender order
+unfoldable pub receivedFrom : List ℕ → ℕ → ℕ → List ℕ
 receivedFrom ballots lost zero = []
-receivedFrom ballots lost (suc k) = withHeard (receivedFrom ballots lost k) (getD ballots k zeroBallot) (member k lost)
+receivedFrom ballots lost (suc k) = receivedFrom ballots lost k ++ cond (member k lost) [] (fiveAt ballots k)
 
 -- head i after its tick
 unfoldable pub tickedBy : Survey → ℕ → List ℕ → List ℕ → ℕ → Head → Head

@@ -1,7 +1,8 @@
 // One head of the table at a time, by value: its start, what it shows, its tick in a round.
 ghost use mathlib.Core.Path.{_≡_};
-ghost use Prim.Native.Nat.{_*_, _/_, _%_, _≤_, _<_};
-ghost use lib.ListN.{length, take};
+ghost use Prim.Native.Nat.{_+_, _*_, _/_, _%_, _≤_, _<_};
+ghost use lib.ListN.{length, take, drop};
+ghost use lib.Seq.{sets};
 ghost use Rattle.rules.specs.Heard.{member};
 ghost use Rattle.rules.specs.Head.{zeroHead};
 ghost use Rattle.file.specs.Table.{startIn, rowsIn, coinsIn};
@@ -15,22 +16,13 @@ use codes::value_code;
 use engine::start;
 use engine::tick;
 use file::Plan;
-use rules::Ballot;
-use rules::Decision;
 use rules::Head;
-use rules::Status;
-use rules::Value;
 
-// The ballots of the heads before a round, and how many of the heads are decided.
+// What the heads show before a round: their ballots, five bytes each in sender order, and how many of
+// them are decided.
 pub struct Survey {
-    pub ballots: [Ballot; 32],
+    pub ballots: [u8; 160],
     pub decided: usize,
-}
-
-// A list of ballots for a tick: the first `length` bytes.
-pub struct Heard {
-    pub bytes: [u8; 160],
-    pub length: usize,
 }
 
 pub(crate) fn started(file: &[u8], n: usize, i: usize) -> Head
@@ -42,34 +34,19 @@ pub(crate) fn started(file: &[u8], n: usize, i: usize) -> Head
     answer.head
 }
 
-// The head of zeros, with which a table is made.
+// The head of zeros, with which a table is made: what a refused start gives.
 pub(crate) fn no_head() -> Head
     ensures { λ r. ⌜ r ≡ zeroHead ⌝ }
 {
-    Head {
-        n: 0,
-        own: 0,
-        phase: 0,
-        value: Value::Zero,
-        status: Status::Undecided,
-        decision: Decision::Zero,
-        zeros: 0,
-        ones: 0,
-        blanks: 0,
-    }
+    let refused = start(0, 0, 0);
+    refused.head
 }
 
 pub(crate) fn no_survey() -> Survey
     ensures { λ r. ⌜ r ≡ noSurvey ⌝ }
 {
-    let none = Ballot {
-        sender: 0,
-        value: Value::Zero,
-        status: Status::Undecided,
-        phase: 0,
-    };
     Survey {
-        ballots: [none; 32],
+        ballots: [0; 160],
         decided: 0,
     }
 }
@@ -81,13 +58,15 @@ pub(crate) fn note(before: Survey, i: usize, head: Head) -> Survey
 {
     let value = head.value;
     let status = head.status;
+    let five = [
+        head.own,
+        value_code(value),
+        status_code(status),
+        high_byte(head.phase),
+        low_byte(head.phase),
+    ];
     let mut ballots = before.ballots;
-    ballots[i] = Ballot {
-        sender: head.own,
-        value: value,
-        status: status,
-        phase: head.phase,
-    };
+    copy_ballot(&mut ballots, i * 5, &five, 0);
     Survey {
         ballots: ballots,
         decided: before.decided + status_code(status) as usize,
@@ -106,12 +85,10 @@ pub(crate) fn ticked(
     requires { ⌜ (n ≤ 32) × (i < n) ⌝ }
     ensures { λ r. ⌜ r ≡ tickedBy before n (now (rows .entry)) (now (coins .entry)) i head ⌝ }
 {
-    let ballots = before.ballots;
-    let list = received(ballots, row_at(rows, i * 4), n);
     let coin = byte_at(coins, i);
-    let length = list.length;
-    let bytes = list.bytes;
-    let answer = tick(head, &bytes[..length], coin as u32);
+    let mut list = before.ballots;
+    let length = received(&mut list, &before.ballots, row_at(rows, i * 4), n);
+    let answer = tick(head, &list[..length], coin as u32);
     answer.head
 }
 
@@ -135,31 +112,35 @@ pub(crate) fn coins_of<'a>(file: &'a [u8], plan: Plan, r: usize) -> &'a [u8]
     part(file, from, n)
 }
 
-// The ballots that are not lost, in sender order: each is written, and a lost one is written over.
-fn received(ballots: [Ballot; 32], lost: u32, n: usize) -> Heard
-    requires { ⌜ n ≤ 32 ⌝ }
-    ensures { λ r. ⌜ (r .length ≤ n * 5) × (length (r .bytes) ≡ 160) × (take (r .length) (r .bytes) ≡ receivedFrom ballots lost n) ⌝ }
+// The ballots that are not lost, in sender order. The list comes with all of them, and stays so where
+// none is lost; else each is written, and a lost one is written over.
+fn received(list: &mut [u8], ballots: &[u8], lost: u32, n: usize) -> usize
+    requires { ⌜ (n ≤ 32) × (length (now ballots) ≡ 160) × (now list ≡ now ballots) ⌝ }
+    ensures { λ r. ⌜ (r ≤ n * 5) × (length (now (list .exit)) ≡ 160) × (take r (now (list .exit)) ≡ receivedFrom (now (ballots .entry)) lost n) ⌝ }
 {
-    let mut bytes: [u8; 160] = [0; 160];
+    if lost == 0 {
+        return n * 5;
+    }
     let mut at = 0;
     let mut k = 0;
     while k < n {
-        let ballot = ballots[k];
-        let value = ballot.value;
-        let status = ballot.status;
-        let phase = ballot.phase;
-        bytes[at] = ballot.sender;
-        bytes[at + 1] = value_code(value);
-        bytes[at + 2] = status_code(status);
-        bytes[at + 3] = high_byte(phase);
-        bytes[at + 4] = low_byte(phase);
+        copy_ballot(list, at, ballots, k * 5);
         at = at + kept_bytes(is_lost(lost, k));
         k = k + 1;
     }
-    Heard {
-        bytes: bytes,
-        length: at,
-    }
+    at
+}
+
+// Five bytes, from one place to another.
+fn copy_ballot(list: &mut [u8], at: usize, ballots: &[u8], from: usize)
+    requires { ⌜ (at + 5 ≤ length (now list)) × (from + 5 ≤ length (now ballots)) ⌝ }
+    ensures { λ _. ⌜ now (list .exit) ≡ sets (now (list .entry)) at (take 5 (drop from (now (ballots .entry)))) ⌝ }
+{
+    list[at] = ballots[from];
+    list[at + 1] = ballots[from + 1];
+    list[at + 2] = ballots[from + 2];
+    list[at + 3] = ballots[from + 3];
+    list[at + 4] = ballots[from + 4];
 }
 
 // "Bit s set: the ballot of head s is lost to it."

@@ -1,28 +1,72 @@
+use Prim.Native.Nat.{ℕ, _+_, _*_, _/_, _%_}
+use mathlib.Core.Path.{_≡_, refl}
+use mathlib.Core.List.{List, [], _∷_}
+use native.Mathlib.Omega.{arith}
+use lib.ListN.{length}
+use lib.Seq.{sets}
 use borrow.Author.Needs.{needs}
+use Rattle.rules.specs.declared.Head.{Head}
+use Rattle.rules.specs.Ballot.{valueCode, statusCode}
+use Rattle.run.specs.declared.heads.Survey.{Survey}
 use Rattle.run.specs.Survey.{noted}
 use Rattle.run.proofs.heads.note.Statement.{statement}
 use Rattle.run.proofs.heads.note.Tie as tie
 
-mul-ballots : tie.Need-mul-ballots
-mul-ballots c = search needs
+noted-is : (before : Survey) (i : ℕ) (h : Head) (ballots : List ℕ) (value status high low more : ℕ) → ballots ≡ sets (before .ballots) (i * 5) (h .own ∷ value ∷ status ∷ high ∷ low ∷ [])
+    → value ≡ valueCode (h .value) → status ≡ statusCode (h .status) → high ≡ h .phase / 256 → low ≡ h .phase % 256 → more ≡ statusCode (h .status)
+    → _≡_ {A = Survey} (record { ballots = ballots; decided = before .decided + more }) (noted before i h)
+unfolding noted
+noted-is before i h ballots value status high low more b v s x y m = rw (b, v, s, x, y, m) refl
 
-array-set-from-ballots : tie.Need-array-set-from-ballots
-array-set-from-ballots c = search needs
+value-code-requires : tie.Need-value-code-requires
+value-code-requires c κs = search needs
 
 status-code-requires : tie.Need-status-code-requires
 status-code-requires c κs = search needs
 
-cast-t8 : tie.Need-cast-t8
-cast-t8 c = search needs
+high-byte-requires : tie.Need-high-byte-requires
+high-byte-requires c κs = search needs
 
-add-t13 : tie.Need-add-t13
-add-t13 c = search needs
+low-byte-requires : tie.Need-low-byte-requires
+low-byte-requires c κs = search needs
+
+slice-aggregate-copy-ballot : tie.Need-slice-aggregate-copy-ballot
+slice-aggregate-copy-ballot c = search needs
+
+mul-copy-ballot : tie.Need-mul-copy-ballot
+mul-copy-ballot c = search needs
+
+slice-aggregate-copy-ballot-2 : tie.Need-slice-aggregate-copy-ballot-2
+slice-aggregate-copy-ballot-2 c = search needs
+
+copy-ballot-requires : tie.Need-copy-ballot-requires
+copy-ballot-requires c κs = let long : 160 ≡ length (c .before .before .before .before .before .before .before .args .before .ballots) = slice-aggregate-copy-ballot (c .before) in (omega (arith, long, c .before .before .before .before .before .before .before .pre .0), omega arith)
+
+status-code-requires-2 : tie.Need-status-code-requires-2
+status-code-requires-2 c κs = search needs
+
+cast-t15 : tie.Need-cast-t15
+cast-t15 c = search needs
+
+add-t19 : tie.Need-add-t19
+add-t19 c = search needs
 
 returns : tie.Need-returns
-unfolding noted
-returns c = simp (c .before .status-code .ensures)
+returns c = noted-is _ _ _ _ _ _ _ _ _ (c .before .before .before .copy-ballot .ensures) (c .before .before .before .before .before .before .before .before .before .before .value-code .ensures) (c .before .before .before .before .before .before .before .before .before .status-code .ensures) (c .before .before .before .before .before .before .before .before .high-byte .ensures) (c .before .before .before .before .before .before .before .low-byte .ensures) (c .before .status-code2 .ensures)
 
 pub note-spec : {M : Type 1} → statement M
 note-spec =
     tie.close
-    (tie.spec mul-ballots array-set-from-ballots status-code-requires cast-t8 add-t13 returns)
+    (tie.spec
+    value-code-requires
+    status-code-requires
+    high-byte-requires
+    low-byte-requires
+    slice-aggregate-copy-ballot
+    mul-copy-ballot
+    slice-aggregate-copy-ballot-2
+    copy-ballot-requires
+    status-code-requires-2
+    cast-t15
+    add-t19
+    returns)

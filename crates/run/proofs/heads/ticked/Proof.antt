@@ -20,6 +20,12 @@ ticked-is : (before : Survey) (n : ℕ) (rows coins : List ℕ) (i : ℕ) (h : H
 unfolding tickedBy
 ticked-is before n rows coins i h answer list row coin a b c d = rw (a, b, c, d) refl
 
+byte-at-requires : tie.Need-byte-at-requires
+byte-at-requires c κs = search needs
+
+slice-aggregate-received : tie.Need-slice-aggregate-received
+slice-aggregate-received c = search needs
+
 mul-row-at : tie.Need-mul-row-at
 mul-row-at c = search needs
 
@@ -29,14 +35,11 @@ row-at-requires c κs = search needs
 received-requires : tie.Need-received-requires
 received-requires c κs = search needs
 
-byte-at-requires : tie.Need-byte-at-requires
-byte-at-requires c κs = search needs
-
-array-share-prefix-bytes : tie.Need-array-share-prefix-bytes
-array-share-prefix-bytes c = search needs
+array-share-prefix-list : tie.Need-array-share-prefix-list
+array-share-prefix-list c = search needs
 
 slice-aggregate-tick : tie.Need-slice-aggregate-tick
-slice-aggregate-tick c = let e = c .before .before .before .received .ensures in sym (length-take-le _ _ (omega (arith, e .0, e .1, c .before .before .before .before .before .before .before .before .pre .0)))
+slice-aggregate-tick c = let e = c .before .before .received .ensures in sym (length-take-le _ _ (omega (arith, e .0, e .1, c .before .before .before .before .before .before .before .before .before .before .before .before .pre .0)))
 
 cast-tick : tie.Need-cast-tick
 cast-tick c = search needs
@@ -45,18 +48,19 @@ tick-requires : tie.Need-tick-requires
 tick-requires c κs = search needs
 
 returns : tie.Need-returns
-returns c = let e = c .before .before .before .before .before .received .ensures in
-    ticked-is _ _ _ _ _ _ _ _ _ _ (c .before .tick .ensures) (e .2) (c .before .before .before .before .before .before .row-at .ensures) (c .before .before .before .before .byte-at .ensures)
+returns c = let e = c .before .before .before .before .received .ensures in
+    ticked-is _ _ _ _ _ _ _ _ _ _ (c .before .tick .ensures) (e .2) (c .before .before .before .before .before .row-at .ensures) (c .before .before .before .before .before .before .before .before .before .before .before .byte-at .ensures)
 
 pub ticked-spec : {M : Type 1} → statement M
 ticked-spec =
     tie.close
     (tie.spec
+    byte-at-requires
+    slice-aggregate-received
     mul-row-at
     row-at-requires
     received-requires
-    byte-at-requires
-    array-share-prefix-bytes
+    array-share-prefix-list
     slice-aggregate-tick
     cast-tick
     tick-requires
