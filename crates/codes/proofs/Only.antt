@@ -9,7 +9,7 @@ use Rattle.codes.proofs.status_code.Reads as status-code
 use Rattle.codes.proofs.status_of.Reads as status-of
 use Rattle.codes.proofs.value_code.Reads as value-code
 use Rattle.codes.proofs.value_of.Reads as value-of
-use Rattle.codes.proofs.word_of.Reads as word-of
+use Rattle.codes.proofs.four_bytes_of.Reads as four-bytes-of
 
 pub value-code-only : (κs : _) (a : _) (r r′ : _) (s s′ : _) → value-code.Post κs a r s → value-code.Post κs a r′ s′ → r ≡ r′
 value-code-only κs a r r′ s s′ p q = only p q
@@ -32,5 +32,5 @@ decision-of-only κs a r r′ s s′ p q = only p q
 pub phase-of-only : (κs : _) (a : _) (r r′ : _) (s s′ : _) → phase-of.Post κs a r s → phase-of.Post κs a r′ s′ → r ≡ r′
 phase-of-only κs a r r′ s s′ p q = only p q
 
-pub word-of-only : (κs : _) (a : _) (r r′ : _) (s s′ : _) → word-of.Post κs a r s → word-of.Post κs a r′ s′ → r ≡ r′
-word-of-only κs a r r′ s s′ p q = only p q
+pub four-bytes-of-only : (κs : _) (a : _) (r r′ : _) (s s′ : _) → four-bytes-of.Post κs a r s → four-bytes-of.Post κs a r′ s′ → r ≡ r′
+four-bytes-of-only κs a r r′ s s′ p q = only p q

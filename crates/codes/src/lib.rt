@@ -1,4 +1,5 @@
-// The numbers that stand for values, statuses, decisions and phases in bytes.
+// The numbers that stand for values, statuses, decisions and phases in bytes, and four bytes as the
+// number of a set or a row.
 ghost use mathlib.Core.Path.{_≡_};
 ghost use Prim.Native.Nat.{_+_, _*_};
 ghost use Rattle.rules.specs.Ballot.{valueCode, valueOf, statusCode, statusOf};
@@ -74,7 +75,7 @@ pub fn phase_of(high: u8, low: u8) -> u16
 }
 
 // Four bytes, high byte first.
-pub fn word_of(a: u8, b: u8, c: u8, d: u8) -> u32
+pub fn four_bytes_of(a: u8, b: u8, c: u8, d: u8) -> u32
     ensures { λ r. ⌜ r ≡ ((a * 256 + b) * 256 + c) * 256 + d ⌝ }
 {
     ((a as u32 * 256 + b as u32) * 256 + c as u32) * 256 + d as u32

@@ -12,7 +12,7 @@ use Rattle.rules.specs.Number.{_when_, firstThatApplies}
 use Rattle.rules.specs.Below.{some}
 use Rattle.rules.specs.Ballot.{ballotAt, breaksRule}
 use Rattle.rules.specs.Head.{sound}
-use Rattle.rules.specs.Tick.{ballots, gathered, stepped, notList, ownFromAhead, contradicts, bothHeard, phasesEnd, decidesOtherwise, quorum, risen, settled, tickNumber, tickOf}
+use Rattle.rules.specs.Tick.{ballots, gathered, stepped, notList, ownOtherwise, contradicts, bothHeard, phasesEnd, decidesOtherwise, quorum, risen, settled, tickNumber, tickOf}
 use Rattle.engine.specs.Look.{listNumber, listened}
 
 -- none applies, and this is the head after steps 1 and 2
@@ -22,7 +22,7 @@ list-accepted h l g e q = simp (e, q)
 
 pub record Clear (h : Head) (l : List ℕ) (r : Ticked) : Type 0 where
   pub stands : some (ballots l) (breaksRule (h .n) l) ≡ false
-  pub own : some (ballots l) (λ i. ownFromAhead h (ballotAt l i)) ≡ false
+  pub own : some (ballots l) (λ i. ownOtherwise h (ballotAt l i)) ≡ false
   pub once : some (ballots l) (contradicts h l) ≡ false
   pub heard : r .head ≡ gathered h l
 
@@ -59,7 +59,7 @@ pub list-refused : (h : Head) (l : List ℕ) (coin : ℕ) (r : Ticked) → sound
 unfolding tickOf tickNumber listened listNumber firstThatApplies
 list-refused h l coin r s t u e n =
     let list : r .number ≡ listNumber h l = ap (λ (t : Ticked). t .number) e in
-    let number : r .number ≡ tickNumber h l coin = list ∙ same (some (ballots l) (breaksRule (h .n) l)) (some (ballots l) (λ i. ownFromAhead h (ballotAt l i))) (some (ballots l) (contradicts h l)) (after h l coin) (λ z. n (list ∙ z)) ∙ sym (simp (s, t, u)) in
+    let number : r .number ≡ tickNumber h l coin = list ∙ same (some (ballots l) (breaksRule (h .n) l)) (some (ballots l) (λ i. ownOtherwise h (ballotAt l i))) (some (ballots l) (contradicts h l)) (after h l coin) (λ z. n (list ∙ z)) ∙ sym (simp (s, t, u)) in
     simp (← number, ne-eqb (r .number) 0 n)
   where
     same : (a b c : Bool) (later : ℕ) → (_≡_ {A = ℕ} (cond a 6 (cond b 7 (cond c 8 0))) 0 → ⊥) → _≡_ {A = ℕ} (cond a 6 (cond b 7 (cond c 8 0))) (cond a 6 (cond b 7 (cond c 8 later)))

@@ -21,8 +21,8 @@ use Rattle.rules.specs.Below.{some}
 use Rattle.rules.specs.Ballot.{statusCode, sameStatus, ballotAt, breaksRule}
 use Rattle.rules.specs.Heard.{member, setOf, apart, heard, says}
 use Rattle.rules.specs.Head.{standsUnder}
-use Rattle.rules.specs.Tick.{ballots, moved, heardWith, added, gathered, copying, leader, ownFromAhead, contradicts}
-use Rattle.rules.specs.Given.{Sound, Hears, Other, OwnFromAhead, Differ, HeldOtherwise}
+use Rattle.rules.specs.Tick.{ballots, moved, heardWith, added, gathered, copying, leader, ownOtherwise, contradicts}
+use Rattle.rules.specs.Given.{Sound, Hears, Other, OwnOtherwise, Differ, HeldOtherwise}
 use Rattle.rules.proofs.Truth.{never, not-false as means-false, means-self, means-and, means-or, means-not, means-eq, means-lt, and-left, and-right, or-left-false, or-right-false, or-never}
 use Rattle.rules.proofs.Below.{some-here, some-not, some-more}
 use Rattle.rules.proofs.Sets.{member-setOf, means-within, means-apart}
@@ -176,7 +176,7 @@ seen-heard h l a q = seen-added h l (small h a) ∙ simp (sym (above-seen h l (b
 pub empty-accepted : (h : Head) (l : List ℕ) → length l ≡ 0 → listNumber h l ≡ 0
 unfolding listNumber firstThatApplies
 empty-accepted h l e =
-    simp (nothing (breaksRule (h .n) l), nothing (λ i. ownFromAhead h (ballotAt l i)), nothing (contradicts h l))
+    simp (nothing (breaksRule (h .n) l), nothing (λ i. ownOtherwise h (ballotAt l i)), nothing (contradicts h l))
   where
     nothing : (p : ℕ → Bool) → some (ballots l) p ≡ false
     nothing p = some-not (ballots l) p (λ i b. absurd (omega arith))
@@ -266,7 +266,7 @@ module _ (h : Head) (l : List ℕ) (a : Sound h) (e : isPlain h (lookAt h l (bal
 
   -- ---- no number applies
 
-  not-own : (i : ℕ) → i < ballots l → OwnFromAhead h (ballotAt l i) → ⊥
+  not-own : (i : ℕ) → i < ballots l → OwnOtherwise h (ballotAt l i) → ⊥
   not-own i b r = go (r .1)
     where
       is-other : (t u : Status) → (t ≡ u → ⊥) → sent seen t ≡ cond (eqb (statusCode u) 1) (seen .undecided) (seen .decided)
@@ -315,6 +315,6 @@ module _ (h : Head) (l : List ℕ) (a : Sound h) (e : isPlain h (lookAt h l (bal
   plain-accepted =
       simp (
         some-not (ballots l) (breaksRule (h .n) l) (λ i b. fits i b .0),
-        some-not (ballots l) (λ i. ownFromAhead h (ballotAt l i)) (λ i b. means-false (means-own h (ballotAt l i)) (not-own i b)),
+        some-not (ballots l) (λ i. ownOtherwise h (ballotAt l i)) (λ i b. means-false (means-own h (ballotAt l i)) (not-own i b)),
         means-false (means-contradicts h l) (λ r. elim r [ inl x ↦ not-two (x .0) (x .2 .0) (x .1) (x .2 .1) (x .2 .2) | inr x ↦ not-held (x .0) (x .1) (x .2) ]),
       )

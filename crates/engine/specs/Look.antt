@@ -12,7 +12,7 @@ use Rattle.rules.specs.Below.{some}
 use Rattle.rules.specs.Ballot.{valueCode, statusCode, ballotAt, breaksRule}
 use Rattle.rules.specs.Heard.{member, setOf, apart}
 use Rattle.rules.specs.Head.{standsUnder}
-use Rattle.rules.specs.Tick.{ballots, ownFromAhead, contradicts, gathered}
+use Rattle.rules.specs.Tick.{ballots, ownOtherwise, contradicts, gathered}
 use Rattle.engine.specs.declared.look.Look.{Look}
 
 -- the numbers that a list of ballots gives: 6 to 8
@@ -20,7 +20,7 @@ unfoldable pub listNumber : Head → List ℕ → ℕ
 listNumber h l =
     firstThatApplies
     ((6 when some (ballots l) (breaksRule (h .n) l))
-    ∷ (7 when some (ballots l) (λ i. ownFromAhead h (ballotAt l i)))
+    ∷ (7 when some (ballots l) (λ i. ownOtherwise h (ballotAt l i)))
     ∷ (8 when some (ballots l) (contradicts h l))
     ∷ [])
 

@@ -1,7 +1,7 @@
 // A head: its start, its soundness, and the ballot that it sends.
 ghost use mathlib.Core.Path.{_≡_};
 ghost use Prim.Native.Nat.{_≤_};
-ghost use Rattle.rules.specs.Head.{fresh as freshOf, zeroHead, decisionFits, setsFit, phaseFits, standsUnder, sound as soundOf, startOf, ballotOf, sendOf};
+ghost use Rattle.rules.specs.Head.{fresh as freshOf, zeroHead, isDecided, isWritten, decisionIsValue, decisionFits, setsFit, phaseFits, standsUnder, sound as soundOf, startOf, ballotOf, sendOf};
 use crate::ballot::bytes;
 use crate::ballot::not_heads;
 use crate::ballot::obeys;
@@ -59,19 +59,6 @@ pub fn send(head: Head) -> Written
     }
 }
 
-pub(crate) fn own_ballot(head: Head) -> Ballot
-    ensures { λ r. ⌜ r ≡ ballotOf head ⌝ }
-{
-    let value = head.value;
-    let status = head.status;
-    Ballot {
-        sender: head.own,
-        value: value,
-        status: status,
-        phase: head.phase,
-    }
-}
-
 // Whether a head is sound.
 pub fn sound(head: Head) -> bool
     ensures { λ r. ⌜ r ≡ soundOf head ⌝ }
@@ -89,17 +76,46 @@ pub fn sound(head: Head) -> bool
             & (sets_fit(head) & (phase_fits(head) & stands_under(head, head.own, value))))
 }
 
+pub(crate) fn own_ballot(head: Head) -> Ballot
+    ensures { λ r. ⌜ r ≡ ballotOf head ⌝ }
+{
+    let value = head.value;
+    let status = head.status;
+    Ballot {
+        sender: head.own,
+        value: value,
+        status: status,
+        phase: head.phase,
+    }
+}
+
 fn decision_fits(head: Head) -> bool
     ensures { λ r. ⌜ r ≡ decisionFits head ⌝ }
 {
-    let value_enum = head.value;
-    let status_enum = head.status;
-    let decision_enum = head.decision;
-    let value = value_code(value_enum);
-    let status = status_code(status_enum);
-    let decision = decision_code(decision_enum);
-    (!(status == 1) | ((decision < 2) & (decision == value)))
-        & (!(decision < 2) | (3 <= head.phase))
+    (!is_decided(head) | decision_is_value(head)) & (!is_written(head) | (3 <= head.phase))
+}
+
+pub(crate) fn is_decided(head: Head) -> bool
+    ensures { λ r. ⌜ r ≡ isDecided head ⌝ }
+{
+    let status = head.status;
+    status_code(status) == 1
+}
+
+pub(crate) fn is_written(head: Head) -> bool
+    ensures { λ r. ⌜ r ≡ isWritten head ⌝ }
+{
+    let decision = head.decision;
+    decision_code(decision) < 2
+}
+
+// "the decision is there and equals the value"
+pub(crate) fn decision_is_value(head: Head) -> bool
+    ensures { λ r. ⌜ r ≡ decisionIsValue head ⌝ }
+{
+    let value = head.value;
+    let decision = head.decision;
+    is_written(head) & (decision_code(decision) == value_code(value))
 }
 
 fn sets_fit(head: Head) -> bool

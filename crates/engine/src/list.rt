@@ -6,7 +6,7 @@ ghost use lib.Dec.{ltb};
 ghost use lib.ListN.{length};
 ghost use Rattle.rules.specs.Below.{first};
 ghost use Rattle.rules.specs.Ballot.{breaksRule, ballotAt};
-ghost use Rattle.rules.specs.Tick.{ballots as ballotsOf, ahead as aheadOf, leader as leaderOf, copying as copyingOf, sameState, ownFromAhead, differ as differOf, heldOtherwise, contradicts as contradictsOf, gathered as gatheredOf};
+ghost use Rattle.rules.specs.Tick.{ballots as ballotsOf, ahead as aheadOf, leader as leaderOf, copying as copyingOf, sameState, ownOtherwise, differ as differOf, heldOtherwise, contradicts as contradictsOf, gathered as gatheredOf};
 use crate::ballot::ballot_at;
 use crate::ballot::breaks_rule;
 use crate::head::own_ballot;
@@ -34,13 +34,13 @@ pub(crate) fn first_breaking(n: u8, ballots: &[u8]) -> usize
 }
 
 // The first ballot under the head's own number that is ahead of the head or unlike it.
-pub(crate) fn first_own_from_ahead(head: Head, ballots: &[u8]) -> usize
-    ensures { λ r. ⌜ r ≡ first (ballotsOf (now (ballots .entry))) (λ i. ownFromAhead head (ballotAt (now (ballots .entry)) i)) ⌝ }
+pub(crate) fn first_own_otherwise(head: Head, ballots: &[u8]) -> usize
+    ensures { λ r. ⌜ r ≡ first (ballotsOf (now (ballots .entry))) (λ i. ownOtherwise head (ballotAt (now (ballots .entry)) i)) ⌝ }
 {
     let count = ballots.len() / 5;
     let mut i: usize = 0;
     while i < count {
-        if own_from_ahead(head, ballot_at(ballots, i)) {
+        if own_otherwise(head, ballot_at(ballots, i)) {
             return i;
         }
         i += 1;
@@ -137,8 +137,8 @@ fn copying(head: Head, ballot: Ballot) -> Head
     }
 }
 
-fn own_from_ahead(head: Head, ballot: Ballot) -> bool
-    ensures { λ r. ⌜ r ≡ ownFromAhead head ballot ⌝ }
+fn own_otherwise(head: Head, ballot: Ballot) -> bool
+    ensures { λ r. ⌜ r ≡ ownOtherwise head ballot ⌝ }
 {
     (ballot.sender == head.own)
         & ((head.phase < ballot.phase)

@@ -1,6 +1,6 @@
 // One look at a list of ballots: whom the head hears in it, and whether it is plain. No ballot of a
 // plain list is refused by 6, 7 or 8. Of any other list a look says nothing, and the searches of
-// `list` decide: they are slower, and such lists are rare.
+// `list` decide, which are slower.
 ghost use mathlib.Core.Path.{_≡_};
 ghost use mathlib.Core.Bool.{cond, _&&_};
 ghost use Prim.Native.Nat.{_<_, _/_};

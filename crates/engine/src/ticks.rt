@@ -4,10 +4,13 @@ ghost use mathlib.Core.Bool.{true, cond};
 ghost use Rattle.rules.specs.Head.{sound as soundOf};
 ghost use Rattle.rules.specs.Tick.{tickOf, notList, bothHeard, decidesOtherwise, settled as settledOf};
 ghost use Rattle.engine.specs.Look.{listened as listenedOf};
+use crate::head::decision_is_value;
+use crate::head::is_decided;
+use crate::head::is_written;
 use crate::head::sound;
 use crate::list::first_breaking;
 use crate::list::first_contradicting;
-use crate::list::first_own_from_ahead;
+use crate::list::first_own_otherwise;
 use crate::list::gathered;
 use crate::look::is_plain;
 use crate::look::looked;
@@ -15,8 +18,6 @@ use crate::look::shown;
 use crate::step::quorum;
 use crate::step::risen;
 use crate::step::settled;
-use codes::decision_code;
-use codes::status_code;
 use codes::value_code;
 use rules::Head;
 use rules::Ticked;
@@ -34,12 +35,12 @@ pub fn tick(head: Head, ballots: &[u8], coin: u32) -> Ticked
     if not_list(ballots) {
         return answer(5, head);
     }
-    let listened = listened(head, ballots);
-    let number = listened.number;
+    let after = listened(head, ballots);
+    let number = after.number;
     if number != 0 {
         return answer(number, head);
     }
-    let heard = listened.head;
+    let heard = after.head;
     if both_heard(heard) {
         return answer(9, head);
     }
@@ -67,6 +68,7 @@ fn listened(head: Head, ballots: &[u8]) -> Ticked
     requires { ⌜ soundOf head ≡ true ⌝ }
     ensures { λ r. ⌜ r ≡ listenedOf head (now (ballots .entry)) ⌝ }
 {
+    // Nothing to look at. Step 3 is taken all the same, if enough heads were heard before.
     if ballots.len() == 0 {
         return answer(0, head);
     }
@@ -88,7 +90,7 @@ fn searched(head: Head, ballots: &[u8]) -> Ticked
     if first_breaking(head.n, ballots) < count {
         return answer(6, head);
     }
-    if first_own_from_ahead(head, ballots) < count {
+    if first_own_otherwise(head, ballots) < count {
         return answer(7, head);
     }
     if first_contradicting(head, ballots) < count {
@@ -121,11 +123,6 @@ fn both_heard(head: Head) -> bool
 fn decides_otherwise(head: Head) -> bool
     ensures { λ r. ⌜ r ≡ decidesOtherwise head ⌝ }
 {
-    let value_enum = head.value;
-    let status_enum = head.status;
-    let decision_enum = head.decision;
-    let value = value_code(value_enum);
-    let decision = decision_code(decision_enum);
-    (status_code(status_enum) == 1)
-        & ((value == 2) | ((decision < 2) & !((decision < 2) & (decision == value))))
+    let value = head.value;
+    is_decided(head) & ((value_code(value) == 2) | (is_written(head) & !decision_is_value(head)))
 }

@@ -13,7 +13,7 @@ use Rattle.rules.specs.Ballot.{bytesOf}
 use Rattle.rules.specs.Heard.{member}
 use Rattle.rules.specs.Head.{ballotOf}
 use Rattle.rules.specs.Tick.{tickNumber, tickOf}
-use Rattle.rules.specs.Record.{wordAt}
+use Rattle.rules.specs.Record.{fourBytesAt}
 use Rattle.rules.specs.Run.{headIn, Run}
 use Rattle.rules.specs.Round.{received, ticksOfRound}
 use Rattle.rules.proofs.Rounds.{round-is-run, untouched, ticked-once}
@@ -31,10 +31,10 @@ module _ (file : List ℕ) (plan : Plan) (table : List Head) (accepted : KeepsEv
   -- what is received from the table is what is received from the vote's heads
   received-same : (r : ℕ) → ((s : ℕ) → s < plan .n → headOf (roundsIn file plan r starts) s ≡ headIn (voteIn file plan) (eventsIn file plan r) s)
       → (receiver k : ℕ) → k ≤ plan .n
-      → receivedIn (roundsIn file plan r starts) (wordAt (rowsIn file plan r) (receiver * 4)) k ≡ received (voteIn file plan) (eventsIn file plan r) (channelIn file plan r) receiver k
+      → receivedIn (roundsIn file plan r starts) (fourBytesAt (rowsIn file plan r) (receiver * 4)) k ≡ received (voteIn file plan) (eventsIn file plan r) (channelIn file plan r) receiver k
   received-same r same receiver zero h = refl
   received-same r same receiver (suc k) h =
-      ap₂ (λ (list : List ℕ) (head : Head). list ++ cond (member k (wordAt (rowsIn file plan r) (receiver * 4))) [] (bytesOf (ballotOf head)))
+      ap₂ (λ (list : List ℕ) (head : Head). list ++ cond (member k (fourBytesAt (rowsIn file plan r) (receiver * 4))) [] (bytesOf (ballotOf head)))
       (received-same r same receiver k (omega arith)) (same k h)
 
   -- "A round": each head of the table is ticked as the vote's is
@@ -86,7 +86,7 @@ module _ (file : List ℕ) (plan : Plan) (table : List Head) (accepted : KeepsEv
       go (no e) f = f (omega (arith, e)) (run .0)
 
   pub bench-tick-accepted : (r s : ℕ) → r < plan .rounds → s < plan .n
-      → tickNumber (headOf (roundsIn file plan r starts) s) (receivedIn (roundsIn file plan r starts) (wordAt (rowsIn file plan r) (s * 4)) (plan .n)) (getD (coinsIn file plan r) s 0) ≡ 0
+      → tickNumber (headOf (roundsIn file plan r starts) s) (receivedIn (roundsIn file plan r starts) (fourBytesAt (rowsIn file plan r) (s * 4)) (plan .n)) (getD (coinsIn file plan r) s 0) ≡ 0
   bench-tick-accepted r s early h =
       ap₂ (λ (head : Head) (list : List ℕ). tickNumber head list (getD (coinsIn file plan r) s 0))
       (heads-are r s h ∙ sym (untouched (voteIn file plan) (eventsIn file plan r) (channelIn file plan r) s s (omega arith)))

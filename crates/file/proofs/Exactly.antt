@@ -9,7 +9,7 @@ use lib.Dec.{ltb, leb, eqb}
 use borrow.Author.Tests.{lt-ltb, le-ltb, le-leb, eq-eqb}
 use Rattle.rules.specs.Ballot.{notHeads}
 use Rattle.rules.specs.Heard.{within}
-use Rattle.rules.specs.Record.{wordAt}
+use Rattle.rules.specs.Record.{fourBytesAt}
 use Rattle.rules.proofs.Truth.{not-false}
 use Rattle.rules.proofs.Below.{first-none}
 use Rattle.rules.proofs.Sets.{means-within}
@@ -87,8 +87,8 @@ module _ (file : List ℕ) where
         one i h =
             let low : i < rows = omega (arith, h) in
             let at : 5 + n + 2 + i * 4 ≡ plan .losses + i * 4 = omega (arith, keeps .losses) in
-            ap (λ (row : ℕ). not (within n row)) (word-at file (5 + n + 2) (rows * 4) (i * 4) (omega (arith, low)) ∙ ap (wordAt file) at)
-            ∙ ap not (means-within n (wordAt file (plan .losses + i * 4)) .1 (keeps .row i low))
+            ap (λ (row : ℕ). not (within n row)) (word-at file (5 + n + 2) (rows * 4) (i * 4) (omega (arith, low)) ∙ ap (fourBytesAt file) at)
+            ∙ ap not (means-within n (fourBytesAt file (plan .losses + i * 4)) .1 (keeps .row i low))
 
     coins-whole : coinsOf file (7 + n + rows * 4) rows ≡ Body (9 + n + rows * 4) rows
     unfolding coinsOf

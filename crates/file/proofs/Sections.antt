@@ -10,7 +10,7 @@ use lib.Seq.{getD-take, getD-drop}
 use borrow.Author.Tests.{ltb-true, ltb-false, leb-true, eqb-true}
 use Rattle.rules.specs.Ballot.{notHeads}
 use Rattle.rules.specs.Heard.{member, within}
-use Rattle.rules.specs.Record.{wordAt}
+use Rattle.rules.specs.Record.{fourBytesAt}
 use Rattle.rules.specs.Given.{Heads}
 use Rattle.rules.proofs.Truth.{and-left, and-right}
 use Rattle.rules.proofs.Below.{not-some}
@@ -102,7 +102,7 @@ module _ (file : List ℕ) where
   body-at start size i h = getD-take size (drop start file) i 0 h ∙ getD-drop start file i 0
 
   -- and so is a row
-  pub word-at : (start size i : ℕ) → i + 3 < size → wordAt (bodyOf file (Body start size)) i ≡ wordAt file (start + i)
+  pub word-at : (start size i : ℕ) → i + 3 < size → fourBytesAt (bodyOf file (Body start size)) i ≡ fourBytesAt file (start + i)
   word-at start size i h =
       rw (body-at start size i (omega arith), body-at start size (i + 1) (omega arith), body-at start size (i + 2) (omega arith), body-at start size (i + 3) (omega arith))
       (rw (next 1, next 2, next 3) refl)
@@ -185,7 +185,7 @@ module _ (file : List ℕ) where
     pub rounds : countAt file at ≤ 256
     pub sized : size ≡ countAt file at * n * 4
     pub inside : start + size ≤ length file
-    pub row : (i : ℕ) → i < countAt file at * n → (s : ℕ) → member s (wordAt file (start + i * 4)) ≡ true → s < n
+    pub row : (i : ℕ) → i < countAt file at * n → (s : ℕ) → member s (fourBytesAt file (start + i * 4)) ≡ true → s < n
 
   pub losses-body : (at n start size : ℕ) → lossesOf file at n ≡ Body start size → Losses at n start size
   unfolding lossesOf
@@ -201,7 +201,7 @@ module _ (file : List ℕ) where
         row = λ i h.
             let low : i * 4 + 3 < size = omega (arith, h, c .sized) in
             let fits = ap (within n) (sym (word-at start size (i * 4) low)) ∙ not-false _ (unbroken start size 4 (notRow n) inside (x .1) i (omega (arith, h, c .sized))) in
-            means-within n (wordAt file (start + i * 4)) .0 fits;
+            means-within n (fourBytesAt file (start + i * 4)) .0 fits;
       }
 
   -- "Count n times rounds, then that many coins (0 or 1)"

@@ -11,8 +11,9 @@ use Rattle.rules.specs.declared.Head.{Head}
 use Rattle.rules.specs.Ballot.{valueOf}
 use Rattle.rules.specs.Head.{decisionFor}
 use Rattle.rules.specs.Tick.{tickNumber}
-use Rattle.rules.specs.Record.{wordAt}
-use Rattle.rules.specs.Run.{Vote, Event, headIn, Run, Written}
+use Rattle.rules.specs.Record.{fourBytesAt}
+use Rattle.rules.specs.Given.{WrittenDecision}
+use Rattle.rules.specs.Run.{Vote, Event, headIn, Run}
 use Rattle.rules.proofs.Demands.{no-two-decisions-differ, each-was-proposed}
 use Rattle.file.specs.declared.Plan.{Plan}
 use Rattle.file.specs.Rules.{KeepsEveryRule}
@@ -94,19 +95,19 @@ the-table-holds-the-heads file table zero s h = let plan = planFor file table in
 pub no-tick-of-the-bench-is-refused : (file : List ℕ) (table : List Head) → Accepts file table → (r s : ℕ) → r < planFor file table .rounds → s < planFor file table .n
     → let plan = planFor file table in
     let before = roundsIn file plan r (startsIn file (plan .n) table) in
-    tickNumber (headOf before s) (receivedIn before (wordAt (rowsIn file plan r) (s * 4)) (plan .n)) (getD (coinsIn file plan r) s 0) ≡ 0
+    tickNumber (headOf before s) (receivedIn before (fourBytesAt (rowsIn file plan r) (s * 4)) (plan .n)) (getD (coinsIn file plan r) s 0) ≡ 0
 no-tick-of-the-bench-is-refused file table zero r s early h = bench-tick-accepted file (planFor file table) table (accepted file table zero) r s early h
 
 -- "No two decisions differ"
 pub no-two-decisions-in-the-table-differ : (file : List ℕ) (table : List Head) → Accepts file table → (s t : ℕ) → s < planFor file table .n → t < planFor file table .n
-    → Written (headOf (tableAfter file table) s) → Written (headOf (tableAfter file table) t) → headOf (tableAfter file table) s .decision ≡ headOf (tableAfter file table) t .decision
+    → WrittenDecision (headOf (tableAfter file table) s) → WrittenDecision (headOf (tableAfter file table) t) → headOf (tableAfter file table) s .decision ≡ headOf (tableAfter file table) t .decision
 no-two-decisions-in-the-table-differ file table zero s t hs ht ws wt =
     let a = the-table-holds-the-heads file table zero s hs in
     let b = the-table-holds-the-heads file table zero t ht in
     ap (λ (h : Head). h .decision) a ∙ no-two-decisions-differ (voteFor file table) (eventsFor file table) (a-bench-run-is-a-run file table zero) s t hs ht (rw a at ws) (rw b at wt) ∙ sym (ap (λ (h : Head). h .decision) b)
 
 -- "each was proposed by some head"
-pub each-decision-in-the-table-was-proposed : (file : List ℕ) (table : List Head) → Accepts file table → (s : ℕ) → s < planFor file table .n → Written (headOf (tableAfter file table) s)
+pub each-decision-in-the-table-was-proposed : (file : List ℕ) (table : List Head) → Accepts file table → (s : ℕ) → s < planFor file table .n → WrittenDecision (headOf (tableAfter file table) s)
     → (t : ℕ) × (t < planFor file table .n) × (headOf (tableAfter file table) s .decision ≡ decisionFor (valueOf (getD file (2 + t) 0)))
 each-decision-in-the-table-was-proposed file table zero s hs ws =
     let a = the-table-holds-the-heads file table zero s hs in

@@ -7,7 +7,7 @@ use Rattle.rules.specs.declared.Head.{Head}
 use Rattle.rules.specs.Below.{count}
 use Rattle.rules.specs.Heard.{size}
 use Rattle.rules.specs.Head.{isDecided}
-use Rattle.rules.specs.Record.{wordAt}
+use Rattle.rules.specs.Record.{fourBytesAt}
 use Rattle.file.specs.declared.Plan.{Plan}
 use Rattle.file.specs.declared.Outcome.{Outcome}
 use Rattle.file.specs.Plan.{planOf}
@@ -16,7 +16,7 @@ use Rattle.file.specs.Table.{headOf, rowsIn, tableAfter}
 -- "its lost ballots, of n × n": those of the first k rows
 unfoldable pub lostIn : List ℕ → ℕ → ℕ
 lostIn rows zero = 0
-lostIn rows (suc k) = lostIn rows k + size (wordAt rows (k * 4))
+lostIn rows (suc k) = lostIn rows k + size (fourBytesAt rows (k * 4))
 
 -- "at most ceil(n/2) × (n - k) + k - 2"
 unfoldable pub boundOf : ℕ → ℕ → ℕ

@@ -5,7 +5,7 @@ use mathlib.Core.List.{List}
 use mathlib.Core.Bool.{true}
 use lib.ListN.{length, getD}
 use Rattle.rules.specs.Heard.{member}
-use Rattle.rules.specs.Record.{wordAt}
+use Rattle.rules.specs.Record.{fourBytesAt}
 use Rattle.rules.specs.Given.{Heads}
 use Rattle.file.specs.declared.Plan.{Plan}
 use Rattle.file.specs.Section.{countAt}
@@ -25,7 +25,7 @@ pub record KeepsEveryRule (file : List ℕ) (room : ℕ) (plan : Plan) : Type 0 
   pub third : countAt file (5 + plan .n) ≡ plan .rounds
   pub rounds : plan .rounds ≤ 256
   pub losses : plan .losses ≡ 7 + plan .n
-  pub row : (i : ℕ) → i < plan .rounds * plan .n → (s : ℕ) → member s (wordAt file (plan .losses + i * 4)) ≡ true → s < plan .n
+  pub row : (i : ℕ) → i < plan .rounds * plan .n → (s : ℕ) → member s (fourBytesAt file (plan .losses + i * 4)) ≡ true → s < plan .n
   -- "Count n times rounds, then that many coins (0 or 1)"
   pub fourth : countAt file (7 + plan .n + plan .rounds * plan .n * 4) ≡ plan .rounds * plan .n
   pub coins : plan .coins ≡ 9 + plan .n + plan .rounds * plan .n * 4

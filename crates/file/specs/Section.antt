@@ -8,7 +8,7 @@ use lib.Dec.{ltb, leb, eqb}
 use Rattle.rules.specs.Below.{first}
 use Rattle.rules.specs.Ballot.{notHeads}
 use Rattle.rules.specs.Heard.{overHalf, within}
-use Rattle.rules.specs.Record.{wordAt}
+use Rattle.rules.specs.Record.{fourBytesAt}
 use Rattle.file.specs.declared.Section.{Section}
 use Rattle.file.specs.declared.Section.the-variants.{Body, Refused}
 
@@ -62,7 +62,7 @@ neededOf file at n = checked file 1 (notNeed n) (counted file at (not (eqb (coun
 
 -- "Bits from n up are zero."
 abbrev pub notRow : ℕ → List ℕ → ℕ → Bool
-notRow n body at = not (within n (wordAt body at))
+notRow n body at = not (within n (fourBytesAt body at))
 
 -- "Count of rounds, 0 to 256; per round n rows of 4 bytes, high byte first"
 unfoldable pub lossesOf : List ℕ → ℕ → ℕ → Section

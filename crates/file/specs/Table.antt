@@ -9,7 +9,7 @@ use Rattle.rules.specs.Ballot.{bytesOf}
 use Rattle.rules.specs.Heard.{member}
 use Rattle.rules.specs.Head.{zeroHead, startOf, ballotOf}
 use Rattle.rules.specs.Tick.{tickOf}
-use Rattle.rules.specs.Record.{wordAt}
+use Rattle.rules.specs.Record.{fourBytesAt}
 use Rattle.file.specs.declared.Plan.{Plan}
 use Rattle.file.specs.Plan.{planOf}
 
@@ -42,7 +42,7 @@ receivedIn table lost (suc k) = receivedIn table lost k ++ cond (member k lost) 
 -- "each head .. is ticked with those not lost to it .. and its coin of that round"; "one row per receiver in number order"
 abbrev pub tickedIn : ℕ → List ℕ → List ℕ → List Head → ℕ → Head
 tickedIn n rows coins table s =
-    tickOf (headOf table s) (receivedIn table (wordAt rows (s * 4)) n) (getD coins s 0) .head
+    tickOf (headOf table s) (receivedIn table (fourBytesAt rows (s * 4)) n) (getD coins s 0) .head
 
 -- "A round: all n ballots are formed first", from the table as it was before the round
 unfoldable pub roundIn : ℕ → List ℕ → List ℕ → List Head → List Head

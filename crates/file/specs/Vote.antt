@@ -3,7 +3,7 @@ use Prim.Native.Nat.{ℕ, zero, suc, _+_, _*_}
 use mathlib.Core.List.{List, []}
 use lib.ListN.{getD}
 use Rattle.rules.specs.Heard.{member}
-use Rattle.rules.specs.Record.{wordAt}
+use Rattle.rules.specs.Record.{fourBytesAt}
 use Rattle.rules.specs.Run.{Vote, Event}
 use Rattle.rules.specs.Round.{Channel, round}
 use Rattle.file.specs.declared.Plan.{Plan}
@@ -17,7 +17,7 @@ voteIn file plan = record { n = plan .n; proposal = λ s. getD file (2 + s) 0 }
 abbrev pub channelIn : List ℕ → Plan → ℕ → Channel
 channelIn file plan r =
     record {
-      lost = λ receiver sender. member sender (wordAt (rowsIn file plan r) (receiver * 4));
+      lost = λ receiver sender. member sender (fourBytesAt (rowsIn file plan r) (receiver * 4));
       coin = λ s. getD (coinsIn file plan r) s 0;
     }
 

@@ -12,7 +12,8 @@ use Rattle.rules.specs.declared.Decision.the-variants.{One as ForOne}
 use Rattle.rules.specs.Ballot.{valueOf}
 use Rattle.rules.specs.Heard.{member}
 use Rattle.rules.specs.Head.{decisionFor}
-use Rattle.rules.specs.Run.{Vote, Event, headIn, Written, NoTwoDecisionsDiffer, EachWasProposed, AWrittenOneStays, NotRefusedBeforeTheLastPhase, EveryHeadDecides}
+use Rattle.rules.specs.Given.{WrittenDecision}
+use Rattle.rules.specs.Run.{Vote, Event, headIn, NoTwoDecisionsDiffer, EachWasProposed, AWrittenOneStays, NotRefusedBeforeTheLastPhase, EveryHeadDecides}
 use Rattle.rules.specs.Round.{Channel, received, ticksOfRound, round, lossless}
 use Rattle.rules.proofs.Computing.{computing, each}
 
@@ -111,5 +112,5 @@ later = take 6 (rounds (twoOfThree 1 0) moving)
 pub a-decision-stays : AWrittenOneStays (twoOfThree 1 0) decides later
 unfolding computing
 a-decision-stays s h =
-    each 3 (λ s. Written (headIn (twoOfThree 1 0) decides s) → decision (twoOfThree 1 0) (later ++ decides) s ≡ decision (twoOfThree 1 0) decides s)
+    each 3 (λ s. WrittenDecision (headIn (twoOfThree 1 0) decides s) → decision (twoOfThree 1 0) (later ++ decides) s ≡ decision (twoOfThree 1 0) decides s)
     (((tt, λ w. is ForOne), λ w. absurd (w refl)), λ w. absurd (w refl)) s h

@@ -15,8 +15,8 @@ use Rattle.rules.specs.declared.Head.{Head}
 use Rattle.rules.specs.Number.{Line, _when_, firstThatApplies}
 use Rattle.rules.specs.Ballot.{valueCode, valueOf, statusCode, statusOf, phaseAt, ballotAt, breaksRule, notHeads, readNumber}
 use Rattle.rules.specs.Head.{startNumber}
-use Rattle.rules.specs.Tick.{ballots, gathered, stepped, notList, ownFromAhead, tickNumber}
-use Rattle.rules.specs.Given.{Heads, Obeys, first, second, odd, even, Sound, OwnFromAhead, Differ, HeldOtherwise, HeardAtAll, Quorum, DecidesOtherwise}
+use Rattle.rules.specs.Tick.{ballots, gathered, stepped, notList, ownOtherwise, tickNumber}
+use Rattle.rules.specs.Given.{Heads, Obeys, first, second, odd, even, Sound, OwnOtherwise, Differ, HeldOtherwise, HeardAtAll, Quorum, DecidesOtherwise}
 use Rattle.rules.proofs.Truth.{means-and, means-lt, or-left-false, or-right-false, false-not}
 use Rattle.rules.proofs.Below.{not-some}
 use Rattle.rules.proofs.Meanings.{heads, means-obeys, means-sound}
@@ -101,7 +101,7 @@ pub record Accepted (h : Head) (l : List ℕ) (coin : ℕ) : Type 0 where
   pub few : length l ≤ 320
   pub stands : (i : ℕ) → i < ballots l → Stands (h .n) (ballotAt l i)
   pub codes : (i : ℕ) → i < ballots l → Codes l i
-  pub own : (i : ℕ) → i < ballots l → OwnFromAhead h (ballotAt l i) → ⊥
+  pub own : (i : ℕ) → i < ballots l → OwnOtherwise h (ballotAt l i) → ⊥
   pub once : (i j : ℕ) → i < ballots l → j < ballots l → Differ (ballotAt l i) (ballotAt l j) → ⊥
   pub held : (i : ℕ) → i < ballots l → HeldOtherwise h (ballotAt l i) → ⊥
   pub even : gathered h l .phase % 2 ≡ 0 → HeardAtAll (gathered h l) Zero → HeardAtAll (gathered h l) One → ⊥
@@ -136,7 +136,7 @@ tick-accepted h l coin e =
       few = list .1;
       stands = λ i b. stands-with (h .n) l i (not-some (ballots l) (breaksRule (h .n) l) (a6 .0) i b) .0;
       codes = λ i b. stands-with (h .n) l i (not-some (ballots l) (breaksRule (h .n) l) (a6 .0) i b) .1;
-      own = λ i b. false-not (means-own h (ballotAt l i)) (not-some (ballots l) (λ i. ownFromAhead h (ballotAt l i)) (a7 .0) i b);
+      own = λ i b. false-not (means-own h (ballotAt l i)) (not-some (ballots l) (λ i. ownOtherwise h (ballotAt l i)) (a7 .0) i b);
       once = λ i j b c d. two (λ x. apart (inl x)) i j b c d;
       held = λ i b x. apart (inr (i, b, x));
       even = λ p z o. false-not (means-both (gathered h l)) (a9 .0) (p, z, o);

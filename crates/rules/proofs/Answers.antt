@@ -12,7 +12,7 @@ use Rattle.rules.specs.Number.{firstThatApplies}
 use Rattle.rules.specs.Ballot.{bytesOf, notHeads}
 use Rattle.rules.specs.Head.{sound, startNumber, startOf, ballotOf, sendOf}
 use Rattle.rules.specs.Tick.{tickNumber, tickOf}
-use Rattle.rules.specs.Record.{isRecord, startsNumber}
+use Rattle.rules.specs.Record.{isRecord, startNumberFromC}
 use Rattle.rules.proofs.Truth.{and-left}
 
 -- two answers that are both what a definition gives are equal
@@ -24,8 +24,8 @@ unfolding startOf
 start-number n own proposal = refl
 
 -- a start from C asks what a start asks, then the length
-pub starts-number : (r : List ℕ) (n own proposal : ℕ) → startsNumber r n own proposal ≡ cond (eqb (startNumber n own proposal) 0) (cond (eqb (length r) 20) 0 3) (startNumber n own proposal)
-unfolding startsNumber startNumber firstThatApplies
+pub starts-number : (r : List ℕ) (n own proposal : ℕ) → startNumberFromC r n own proposal ≡ cond (eqb (startNumber n own proposal) 0) (cond (eqb (length r) 20) 0 3) (startNumber n own proposal)
+unfolding startNumberFromC startNumber firstThatApplies
 starts-number r n own proposal = go (notHeads n || not (ltb own n)) (ltb 1 proposal) (eqb (length r) 20)
   where
     go : (a b c : Bool) → _≡_ {A = ℕ} (cond a 1 (cond b 2 (cond (not c) 3 0))) (cond (eqb (cond a 1 (cond b 2 0)) 0) (cond c 0 3) (cond a 1 (cond b 2 0)))

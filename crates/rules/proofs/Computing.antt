@@ -18,7 +18,7 @@ use Rattle.rules.specs.Below.{first, count}
 use Rattle.rules.specs.Ballot.{valueOf, statusOf, bytesOf, ballotAt, classOf, allowed, obeys, breaksRule, notHeads}
 use Rattle.rules.specs.Heard.{member, setOf, size, apart, heard, says}
 use Rattle.rules.specs.Head.{standsUnder, decisionFits, setsFit, phaseFits, sound, startNumber, startOf}
-use Rattle.rules.specs.Tick.{ahead, leader, moved, heardWith, added, gathered, quorum, majority, bitWith, stepValue, stepStatus, stepped, settled, notList, sameState, ownFromAhead, differ, heldOtherwise, contradicts, bothHeard, phasesEnd, decidesOtherwise, tickNumber, tickOf}
+use Rattle.rules.specs.Tick.{ahead, leader, moved, heardWith, added, gathered, quorum, majority, bitWith, stepValue, stepStatus, stepped, settled, notList, sameState, ownOtherwise, differ, heldOtherwise, contradicts, bothHeard, phasesEnd, decidesOtherwise, tickNumber, tickOf}
 use Rattle.rules.specs.Given.{Hears}
 use Rattle.rules.specs.Algorithm.{Process, someIn, lines9to13, lines16to20, lines22to24, lines25to29, lines14to32, lines33to35, clockTick}
 use Rattle.rules.specs.History.{Shows}
@@ -37,7 +37,7 @@ bytes (b ∷ bs) = bytesOf b ++ bytes bs
 
 -- under `unfolding computing` a start, a tick and a clock tick of Algorithm 1 compute
 unfoldable pub computing : Unit {0}
-unfolding firstThatApplies first count valueOf statusOf ballotAt classOf allowed obeys breaksRule notHeads setOf size apart says standsUnder decisionFits setsFit phaseFits sound startNumber startOf ahead leader moved heardWith added gathered quorum majority bitWith stepValue stepStatus stepped settled notList sameState ownFromAhead differ heldOtherwise contradicts bothHeard phasesEnd decidesOtherwise tickNumber tickOf lines9to13 lines16to20 lines22to24 lines25to29 lines14to32 lines33to35 clockTick
+unfolding firstThatApplies first count valueOf statusOf ballotAt classOf allowed obeys breaksRule notHeads setOf size apart says standsUnder decisionFits setsFit phaseFits sound startNumber startOf ahead leader moved heardWith added gathered quorum majority bitWith stepValue stepStatus stepped settled notList sameState ownOtherwise differ heldOtherwise contradicts bothHeard phasesEnd decidesOtherwise tickNumber tickOf lines9to13 lines16to20 lines22to24 lines25to29 lines14to32 lines33to35 clockTick
 computing = tt
 
 -- P of each number below n, one by one

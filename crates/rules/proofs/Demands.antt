@@ -19,10 +19,10 @@ use Rattle.rules.specs.Below.{some, count}
 use Rattle.rules.specs.Ballot.{valueOf, sameValue, readNumber, readBallot}
 use Rattle.rules.specs.Head.{decisionFor, sound, startNumber, startOf, ballotOf, sendOf}
 use Rattle.rules.specs.Tick.{tickNumber, tickOf}
-use Rattle.rules.specs.Record.{headAt, startsNumber, startsRecord, ticksNumber, ticksRecord, sendsNumber, sendsBuffer}
-use Rattle.rules.specs.Given.{Given, startTable, readTable, tickTable, startsTable, ticksTable, sendsTable, Sound}
+use Rattle.rules.specs.Record.{headAt, startNumberFromC, recordAfterStart, tickNumberFromC, recordAfterTick, sendNumberFromC, bufferAfterSend}
+use Rattle.rules.specs.Given.{Given, startTable, readTable, tickTable, startTableFromC, tickTableFromC, sendTableFromC, Sound, WrittenDecision}
 use Rattle.rules.specs.History.{Handed, headAfter, AllAccepted, processAfter, Shows}
-use Rattle.rules.specs.Run.{Vote, Proper, Event, headIn, Sent, Run, Written, NoTwoDecisionsDiffer, EachWasProposed, AWrittenOneStays, NotRefusedBeforeTheLastPhase, EveryHeadDecides}
+use Rattle.rules.specs.Run.{Vote, Proper, Event, headIn, Sent, Run, NoTwoDecisionsDiffer, EachWasProposed, AWrittenOneStays, NotRefusedBeforeTheLastPhase, EveryHeadDecides}
 use Rattle.rules.specs.Round.{Channel, round, lossless}
 use Rattle.rules.proofs.Truth.{false-not}
 use Rattle.rules.proofs.Below.{means-some, not-some}
@@ -52,13 +52,13 @@ pub a-tick-is-refused-by-the-first-number-that-applies : (h : Head) (l : List �
 a-tick-is-refused-by-the-first-number-that-applies = tick-given
 
 -- the same from C
-pub a-start-from-c-is-refused-by-the-first-number-that-applies : (r : List ℕ) (n own proposal number : ℕ) → (startsNumber r n own proposal ≡ number) ↔ Given number (startsTable r n own proposal)
+pub a-start-from-c-is-refused-by-the-first-number-that-applies : (r : List ℕ) (n own proposal number : ℕ) → (startNumberFromC r n own proposal ≡ number) ↔ Given number (startTableFromC r n own proposal)
 a-start-from-c-is-refused-by-the-first-number-that-applies = starts-given
 
-pub a-tick-from-c-is-refused-by-the-first-number-that-applies : (r l : List ℕ) (coin number : ℕ) → (ticksNumber r l coin ≡ number) ↔ Given number (ticksTable r l coin)
+pub a-tick-from-c-is-refused-by-the-first-number-that-applies : (r l : List ℕ) (coin number : ℕ) → (tickNumberFromC r l coin ≡ number) ↔ Given number (tickTableFromC r l coin)
 a-tick-from-c-is-refused-by-the-first-number-that-applies = ticks-given
 
-pub a-ballot-from-c-is-refused-by-the-first-number-that-applies : (r buffer : List ℕ) (number : ℕ) → (sendsNumber r buffer ≡ number) ↔ Given number (sendsTable r buffer)
+pub a-ballot-from-c-is-refused-by-the-first-number-that-applies : (r buffer : List ℕ) (number : ℕ) → (sendNumberFromC r buffer ≡ number) ↔ Given number (sendTableFromC r buffer)
 a-ballot-from-c-is-refused-by-the-first-number-that-applies = sends-given
 
 -- "A refused tick returns the head as it came"
@@ -67,18 +67,18 @@ unfolding tickOf
 a-refused-tick-returns-the-head-as-it-came h l coin n = rw (ne-eqb (tickNumber h l coin) 0 n)
 
 -- "no byte of a lent record .. changes"
-pub a-refused-tick-changes-no-byte : (r l : List ℕ) (coin : ℕ) → (ticksNumber r l coin ≡ 0 → ⊥) → ticksRecord r l coin ≡ r
-unfolding ticksRecord
-a-refused-tick-changes-no-byte r l coin n = rw (ne-eqb (ticksNumber r l coin) 0 n)
+pub a-refused-tick-changes-no-byte : (r l : List ℕ) (coin : ℕ) → (tickNumberFromC r l coin ≡ 0 → ⊥) → recordAfterTick r l coin ≡ r
+unfolding recordAfterTick
+a-refused-tick-changes-no-byte r l coin n = rw (ne-eqb (tickNumberFromC r l coin) 0 n)
 
-pub a-refused-start-changes-no-byte : (r : List ℕ) (n own proposal : ℕ) → (startsNumber r n own proposal ≡ 0 → ⊥) → startsRecord r n own proposal ≡ r
-unfolding startsRecord
-a-refused-start-changes-no-byte r n own proposal f = rw (ne-eqb (startsNumber r n own proposal) 0 f)
+pub a-refused-start-changes-no-byte : (r : List ℕ) (n own proposal : ℕ) → (startNumberFromC r n own proposal ≡ 0 → ⊥) → recordAfterStart r n own proposal ≡ r
+unfolding recordAfterStart
+a-refused-start-changes-no-byte r n own proposal f = rw (ne-eqb (startNumberFromC r n own proposal) 0 f)
 
 -- "either refusal leaves every byte of that buffer zero", document 01
-pub a-refused-ballot-leaves-zeros : (r buffer : List ℕ) → (sendsNumber r buffer ≡ 0 → ⊥) → sendsBuffer r buffer ≡ replicate (length buffer) 0
-unfolding sendsBuffer
-a-refused-ballot-leaves-zeros r buffer f = rw (ne-eqb (sendsNumber r buffer) 0 f)
+pub a-refused-ballot-leaves-zeros : (r buffer : List ℕ) → (sendNumberFromC r buffer ≡ 0 → ⊥) → bufferAfterSend r buffer ≡ replicate (length buffer) 0
+unfolding bufferAfterSend
+a-refused-ballot-leaves-zeros r buffer f = rw (ne-eqb (sendNumberFromC r buffer) 0 f)
 
 -- ---- Demand 2
 
@@ -89,17 +89,17 @@ each-accepted-tick-does-what-algorithm-1-does = as-algorithm-1
 
 -- "Start, tick and ballot are called from C on such records", document 01: a record holds the head that the engine gives,
 -- so what is said here of heads by value is said of records
-pub a-start-from-c-is-the-start : (r : List ℕ) (n own proposal : ℕ) → startsNumber r n own proposal ≡ 0 → headAt (startsRecord r n own proposal) ≡ startOf n own proposal .head
+pub a-start-from-c-is-the-start : (r : List ℕ) (n own proposal : ℕ) → startNumberFromC r n own proposal ≡ 0 → headAt (recordAfterStart r n own proposal) ≡ startOf n own proposal .head
 a-start-from-c-is-the-start = started-record-holds
 
-pub a-tick-from-c-is-the-tick : (r l : List ℕ) (coin : ℕ) → ticksNumber r l coin ≡ 0 → headAt (ticksRecord r l coin) ≡ tickOf (headAt r) l coin .head
+pub a-tick-from-c-is-the-tick : (r l : List ℕ) (coin : ℕ) → tickNumberFromC r l coin ≡ 0 → headAt (recordAfterTick r l coin) ≡ tickOf (headAt r) l coin .head
 a-tick-from-c-is-the-tick = ticked-record-holds
 
 -- "Every ballot written reads back as written"
 pub every-ballot-written-reads-back : (h : Head) → sound h ≡ true → (sendOf h .number ≡ 0) × (readNumber (h .n) (sendOf h .bytes) ≡ 0) × (readBallot (h .n) (sendOf h .bytes) ≡ ballotOf h)
 every-ballot-written-reads-back = sent-reads-back
 
-pub every-ballot-written-from-c-reads-back : (r buffer : List ℕ) → sendsNumber r buffer ≡ 0 → (readNumber (headAt r .n) (sendsBuffer r buffer) ≡ 0) × (readBallot (headAt r .n) (sendsBuffer r buffer) ≡ ballotOf (headAt r))
+pub every-ballot-written-from-c-reads-back : (r buffer : List ℕ) → sendNumberFromC r buffer ≡ 0 → (readNumber (headAt r .n) (bufferAfterSend r buffer) ≡ 0) × (readBallot (headAt r .n) (bufferAfterSend r buffer) ≡ ballotOf (headAt r))
 every-ballot-written-from-c-reads-back = ballot-from-c-reads-back
 
 -- "every accepted ballot's bytes are the only ones for it"
@@ -177,7 +177,7 @@ a-written-one-stays vote events (e ∷ later) run s h w =
     let i = a-written-one-stays vote events later (run .0) s h w in
     go (eqb (e .head) s) (λ z. w (sym i ∙ z)) ∙ i
   where
-    go : (t : Bool) → Written (headIn vote (later ++ events) s) → cond t (tickOf (headIn vote (later ++ events) s) (e .bytes) (e .coin) .head) (headIn vote (later ++ events) s) .decision ≡ headIn vote (later ++ events) s .decision
+    go : (t : Bool) → WrittenDecision (headIn vote (later ++ events) s) → cond t (tickOf (headIn vote (later ++ events) s) (e .bytes) (e .coin) .head) (headIn vote (later ++ events) s) .decision ≡ headIn vote (later ++ events) s .decision
     go true written = tick-keeps-decision (headIn vote (later ++ events) s) (e .bytes) (e .coin) written
     go false written = refl
 

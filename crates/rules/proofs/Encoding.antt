@@ -72,7 +72,3 @@ unfolding breaksRule
 five-stands {n} l i b e s =
     simp
     (first-of-five l i, byte-of-five l i 1 (lit< tt), byte-of-five l i 2 (lit< tt), byte-of-five l i 3 (lit< tt), byte-of-five l i 4 (lit< tt), e, div-add-mod' (b .phase) 256, lt-ltb (b .sender) n (s .sender), means-obeys (b .phase) (valueCode (b .value)) (statusCode (b .status)) .1 (s .rules))
-
--- the ballot read at an index of the bytes is the one at that index of the list
-pub encode-holds : (list : List Ballot) (i : ℕ) → i < length list → ballotAt (encode list) i ≡ nth list i
-encode-holds list i h = five-reads (encode list) i (nth list i) (encode-five list i h)

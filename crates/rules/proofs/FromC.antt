@@ -13,8 +13,8 @@ use Rattle.rules.specs.declared.Head.{Head}
 use Rattle.rules.specs.Ballot.{readNumber, readBallot}
 use Rattle.rules.specs.Head.{sound, startNumber, startOf, ballotOf}
 use Rattle.rules.specs.Tick.{tickNumber, tickOf}
-use Rattle.rules.specs.Record.{recordOf, isRecord, headAt, notSound, startsNumber, startsRecord, ticksNumber, ticksRecord, sendsNumber, sendsBuffer}
-use Rattle.rules.specs.Given.{Given, Sound, SoundRecord, startsTable, laterTable, ticksTable, sendsTable}
+use Rattle.rules.specs.Record.{recordOf, isRecord, headAt, notSound, startNumberFromC, recordAfterStart, tickNumberFromC, recordAfterTick, sendNumberFromC, bufferAfterSend}
+use Rattle.rules.specs.Given.{Given, Sound, SoundRecord, startTableFromC, laterTable, tickTableFromC, sendTableFromC}
 use Rattle.rules.proofs.Truth.{Means, means-self, means-as, means-and, means-or, means-not, means-lt, means-eq, false-not}
 use Rattle.rules.proofs.Meanings.{means-heads, means-sound}
 use Rattle.rules.proofs.Answers.{starts-number}
@@ -34,19 +34,19 @@ means-sound-record r =
     (means-and (means-eq (length r) 20) (means-and means-lt (means-and means-lt (means-and means-lt (means-eq (getD r 7 0) 0)))))
     (means-sound (headAt r)))
 
-pub sends-given : (r buffer : List ℕ) (number : ℕ) → (sendsNumber r buffer ≡ number) ↔ Given number (sendsTable r buffer)
-unfolding sendsNumber notSound
+pub sends-given : (r buffer : List ℕ) (number : ℕ) → (sendNumberFromC r buffer ≡ number) ↔ Given number (sendTableFromC r buffer)
+unfolding sendNumberFromC notSound
 sends-given r buffer =
-    given _ (sendsTable r buffer) (refl, means-not (means-sound-record r), (refl, means-not (means-eq (length buffer) 5), tt))
+    given _ (sendTableFromC r buffer) (refl, means-not (means-sound-record r), (refl, means-not (means-eq (length buffer) 5), tt))
 
-pub starts-given : (r : List ℕ) (n own proposal number : ℕ) → (startsNumber r n own proposal ≡ number) ↔ Given number (startsTable r n own proposal)
-unfolding startsNumber
+pub starts-given : (r : List ℕ) (n own proposal number : ℕ) → (startNumberFromC r n own proposal ≡ number) ↔ Given number (startTableFromC r n own proposal)
+unfolding startNumberFromC
 starts-given r n own proposal =
-    given _ (startsTable r n own proposal)
+    given _ (startTableFromC r n own proposal)
     (refl, means-or (means-heads n) (means-not means-lt), (refl, means-lt, (refl, means-not (means-eq (length r) 20), tt)))
 
-pub ticks-given : (r l : List ℕ) (coin number : ℕ) → (ticksNumber r l coin ≡ number) ↔ Given number (ticksTable r l coin)
-unfolding ticksNumber
+pub ticks-given : (r l : List ℕ) (coin number : ℕ) → (tickNumberFromC r l coin ≡ number) ↔ Given number (tickTableFromC r l coin)
+unfolding tickNumberFromC
 ticks-given r l coin number = go (isRecord r) refl
   where
     Later : Type 0
@@ -73,22 +73,22 @@ written-sound : (h : Head) → Sound h → notSound (recordOf h) ≡ false
 unfolding notSound
 written-sound h s = ap not (means-and (means-self (isRecord (recordOf h))) (means-sound (headAt (recordOf h))) .1 (record-is-record h, subst Sound (sym (record-holds h)) s))
 
-pub started-record-is-sound : (r : List ℕ) (n own proposal : ℕ) → startsNumber r n own proposal ≡ 0 → notSound (startsRecord r n own proposal) ≡ false
-unfolding startsRecord
+pub started-record-is-sound : (r : List ℕ) (n own proposal : ℕ) → startNumberFromC r n own proposal ≡ 0 → notSound (recordAfterStart r n own proposal) ≡ false
+unfolding recordAfterStart
 started-record-is-sound r n own proposal e = rw e (written-sound (startOf n own proposal .head) (start-sound n own proposal (taken e)))
   where
-    taken : startsNumber r n own proposal ≡ 0 → startNumber n own proposal ≡ 0
+    taken : startNumberFromC r n own proposal ≡ 0 → startNumber n own proposal ≡ 0
     taken z = go (startNumber n own proposal) (sym (starts-number r n own proposal) ∙ z)
       where
         go : (k : ℕ) → cond (eqb k 0) (cond (eqb (length r) 20) 0 3) k ≡ 0 → k ≡ 0
         go k q = elim (ℕ-discrete k 0) [ yes z ↦ z | no z ↦ rw (ne-eqb k 0 z) at q ]
 
-pub ticked-record-is-sound : (r l : List ℕ) (coin : ℕ) → ticksNumber r l coin ≡ 0 → notSound (ticksRecord r l coin) ≡ false
-unfolding ticksRecord
+pub ticked-record-is-sound : (r l : List ℕ) (coin : ℕ) → tickNumberFromC r l coin ≡ 0 → notSound (recordAfterTick r l coin) ≡ false
+unfolding recordAfterTick
 ticked-record-is-sound r l coin e = rw e (written-sound (tickOf (headAt r) l coin .head) (tick-sound (headAt r) l coin (taken e)))
   where
-    taken : ticksNumber r l coin ≡ 0 → tickNumber (headAt r) l coin ≡ 0
-    taken z = unfold ticksNumber in go (isRecord r) z
+    taken : tickNumberFromC r l coin ≡ 0 → tickNumber (headAt r) l coin ≡ 0
+    taken z = unfold tickNumberFromC in go (isRecord r) z
       where
         go : (t : Bool) → cond t (tickNumber (headAt r) l coin) 3 ≡ 0 → tickNumber (headAt r) l coin ≡ 0
         go true q = q
@@ -96,16 +96,16 @@ ticked-record-is-sound r l coin e = rw e (written-sound (tickOf (headAt r) l coi
 
 -- ---- an accepted entry leaves what the engine gives by value
 
-pub started-record-holds : (r : List ℕ) (n own proposal : ℕ) → startsNumber r n own proposal ≡ 0 → headAt (startsRecord r n own proposal) ≡ startOf n own proposal .head
-unfolding startsRecord
+pub started-record-holds : (r : List ℕ) (n own proposal : ℕ) → startNumberFromC r n own proposal ≡ 0 → headAt (recordAfterStart r n own proposal) ≡ startOf n own proposal .head
+unfolding recordAfterStart
 started-record-holds r n own proposal e = rw e (record-holds (startOf n own proposal .head))
 
-pub ticked-record-holds : (r l : List ℕ) (coin : ℕ) → ticksNumber r l coin ≡ 0 → headAt (ticksRecord r l coin) ≡ tickOf (headAt r) l coin .head
-unfolding ticksRecord
+pub ticked-record-holds : (r l : List ℕ) (coin : ℕ) → tickNumberFromC r l coin ≡ 0 → headAt (recordAfterTick r l coin) ≡ tickOf (headAt r) l coin .head
+unfolding recordAfterTick
 ticked-record-holds r l coin e = rw e (record-holds (tickOf (headAt r) l coin .head))
 
-pub ballot-from-c-reads-back : (r buffer : List ℕ) → sendsNumber r buffer ≡ 0 → (readNumber (headAt r .n) (sendsBuffer r buffer) ≡ 0) × (readBallot (headAt r .n) (sendsBuffer r buffer) ≡ ballotOf (headAt r))
-unfolding sendsBuffer
+pub ballot-from-c-reads-back : (r buffer : List ℕ) → sendNumberFromC r buffer ≡ 0 → (readNumber (headAt r .n) (bufferAfterSend r buffer) ≡ 0) × (readBallot (headAt r .n) (bufferAfterSend r buffer) ≡ ballotOf (headAt r))
+unfolding bufferAfterSend
 ballot-from-c-reads-back r buffer e = rw e (ballot-reads-back (headAt r) (sound-record .head))
   where
     sound-record : SoundRecord r

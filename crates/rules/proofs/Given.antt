@@ -15,8 +15,8 @@ use Rattle.rules.specs.Below.{some}
 use Rattle.rules.specs.Ballot.{phaseAt, ballotAt, breaksRule, readNumber, sameValue}
 use Rattle.rules.specs.Heard.{member, heard}
 use Rattle.rules.specs.Head.{heardAs, standsUnder, ballotOf, startNumber}
-use Rattle.rules.specs.Tick.{ballots, gathered, stepped, quorum, notList, sameState, ownFromAhead, differ, heldOtherwise, contradicts, bothHeard, phasesEnd, decidesOtherwise, tickNumber}
-use Rattle.rules.specs.Given.{Row, _exactly-when_, Given, Breaks, Hears, Other, OwnFromAhead, Differ, HeldOtherwise, SomeBallot, TwoBallots, HeardAtAll, Quorum, DecidesOtherwise, startTable, readTable, tickTable}
+use Rattle.rules.specs.Tick.{ballots, gathered, stepped, quorum, notList, sameState, ownOtherwise, differ, heldOtherwise, contradicts, bothHeard, phasesEnd, decidesOtherwise, tickNumber}
+use Rattle.rules.specs.Given.{Row, _exactly-when_, Given, Breaks, Hears, Other, OwnOtherwise, Differ, HeldOtherwise, SomeBallot, TwoBallots, HeardAtAll, Quorum, DecidesOtherwise, startTable, readTable, tickTable}
 use Rattle.rules.proofs.Truth.{Means, never, means-as, means-and, means-or, means-not, means-not-both, means-lt, means-le, means-eq, false-not}
 use Rattle.rules.proofs.Below.{means-some}
 use Rattle.rules.proofs.Sets.{means-any}
@@ -71,8 +71,8 @@ means-other : (a b : Ballot) → Means (not (sameState a b)) (Other a (b .value)
 unfolding sameState
 means-other a b = means-not-both (means-value (a .value) (b .value)) (means-status (a .status) (b .status))
 
-pub means-own : (h : Head) (b : Ballot) → Means (ownFromAhead h b) (OwnFromAhead h b)
-unfolding ownFromAhead
+pub means-own : (h : Head) (b : Ballot) → Means (ownOtherwise h b) (OwnOtherwise h b)
+unfolding ownOtherwise
 means-own h b =
     means-and (means-eq (b .sender) (h .own))
     (means-or means-lt (means-and (means-eq (b .phase) (h .phase)) (means-other b (ballotOf h))))

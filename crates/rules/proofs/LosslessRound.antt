@@ -18,7 +18,7 @@ use Rattle.rules.specs.Ballot.{valueCode, valueOf, bytesOf, ballotAt}
 use Rattle.rules.specs.Heard.{member, heard}
 use Rattle.rules.specs.Head.{anyHeard, ballotOf}
 use Rattle.rules.specs.Tick.{ballots, moved, heardWith, added, gathered, bitWith, stepValue, stepStatus, risen, stepped, settled, tickNumber, tickOf}
-use Rattle.rules.specs.Given.{Heads, Obeys, Breaks, Hears, Sound, OwnFromAhead, Differ, SomeBallot, HeardAtAll, DecidesOtherwise}
+use Rattle.rules.specs.Given.{Heads, Obeys, Breaks, Hears, Sound, OwnOtherwise, Differ, SomeBallot, HeardAtAll, DecidesOtherwise}
 use Rattle.rules.specs.Run.{Vote, Event, headIn, fiveAt}
 use Rattle.rules.specs.Round.{received, round, lossless}
 use Rattle.rules.proofs.Truth.{Means, means-as, means-same, false-not}
@@ -156,10 +156,10 @@ module _ {n phase : ℕ} {value : ℕ → Value} {s : ℕ} {l : List ℕ} {coin 
       (five-stands l i (ballotOf (level n phase value i)) (g .five i (all i b)) (record { sender = all i b; rules = g .at .rules i (all i b) }))
 
   -- its own ballot is its state
-  own-is : (i : ℕ) → i < ballots l → OwnFromAhead (level n phase value s) (ballotAt l i) → ⊥
+  own-is : (i : ℕ) → i < ballots l → OwnOtherwise (level n phase value s) (ballotAt l i) → ⊥
   own-is i b x = go (rw (reads i b) at x)
     where
-      go : OwnFromAhead (level n phase value s) (ballotOf (level n phase value i)) → ⊥
+      go : OwnOtherwise (level n phase value s) (ballotOf (level n phase value i)) → ⊥
       go y =
           elim (y .1) [
             | inl above ↦ omega arith

@@ -21,7 +21,7 @@ use Rattle.rules.specs.Ballot.{valueCode, valueOf, ballotAt, breaksRule}
 use Rattle.rules.specs.Heard.{member, size, heard}
 use Rattle.rules.specs.Head.{decisionFor, anyHeard, ballotOf}
 use Rattle.rules.specs.Tick.{ballots, moved, added, gathered, quorum, majority, bitWith, stepValue, stepStatus, risen, stepped, tickNumber}
-use Rattle.rules.specs.Given.{_exactly-when_, Given, Heads, Breaks, Hears, Sound, OwnFromAhead, Differ, HeldOtherwise, SomeBallot, TwoBallots, HeardAtAll, Quorum, DecidesOtherwise}
+use Rattle.rules.specs.Given.{_exactly-when_, Given, Heads, Breaks, Hears, Sound, OwnOtherwise, Differ, HeldOtherwise, SomeBallot, TwoBallots, HeardAtAll, Quorum, DecidesOtherwise}
 use Rattle.rules.specs.Run.{Vote, Event, headIn, Sent, Allowed, NotRefusedBeforeTheLastPhase}
 use Rattle.rules.proofs.Truth.{Means, means-self, means-or, means-lt, false-not}
 use Rattle.rules.proofs.Sets.{means-any}
@@ -262,7 +262,7 @@ module _ (vote : Vote) (events : List Event) (e : Event) (K : Kept vote events) 
 
   -- ---- none of the other refusals
 
-  own-fits : (i : ℕ) → i < ballots (e .bytes) → OwnFromAhead before (ballotAt (e .bytes) i) → ⊥
+  own-fits : (i : ℕ) → i < ballots (e .bytes) → OwnOtherwise before (ballotAt (e .bytes) i) → ⊥
   own-fits i h x = elim (x .1) [ inl l ↦ omega (arith, sent-low b (listed i h) own) | inr y ↦ elim (y .1) [ inl f ↦ f (same (y .0) .0) | inr f ↦ f (same (y .0) .1) ] ]
     where
       b : Ballot

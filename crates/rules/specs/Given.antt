@@ -1,7 +1,7 @@
 -- Document 01's table 'given exactly when' in propositions: what each number's sentence says, in its words.
 use Prim.Native.Nat.{ℕ, _+_, _*_, _%_, _≤_, _<_}
 use mathlib.Core.Path.{_≡_}
-use mathlib.Core.List.{List, [], _∷_}
+use mathlib.Core.List.{List, [], _∷_, _++_}
 use mathlib.Core.Bool.{true}
 use mathlib.Core.Logic.{_⊎_}
 use lib.ListN.{length, getD}
@@ -51,6 +51,10 @@ Breaks n l i = (getD l (i * 5) 0 < n) × Obeys (phaseAt l i) (getD l (i * 5 + 1)
 abbrev pub Hears : Head → Value → ℕ → Type 0
 Hears h v s = member s (heard h v) ≡ true
 
+-- "the decision is there"
+abbrev pub WrittenDecision : Head → Type 0
+WrittenDecision h = h .decision ≡ Unwritten → ⊥
+
 -- "A head is sound when:"
 pub record Sound (h : Head) : Type 0 where
   -- "n is 2 to 32;"
@@ -60,9 +64,9 @@ pub record Sound (h : Head) : Type 0 where
   -- "its phase, value and status obey the same rules;"
   pub rules : Obeys (h .phase) (valueCode (h .value)) (statusCode (h .status))
   -- "decided means that the decision is there and equals the value;"
-  pub decided : h .status ≡ Decided → (h .decision ≡ decisionFor (h .value)) × (h .decision ≡ Unwritten → ⊥)
+  pub decided : h .status ≡ Decided → (h .decision ≡ decisionFor (h .value)) × WrittenDecision h
   -- "a decision means phase 3 or more;"
-  pub decision : (h .decision ≡ Unwritten → ⊥) → 3 ≤ h .phase
+  pub decision : WrittenDecision h → 3 ≤ h .phase
   -- "the three sets are disjoint, with members below n;"
   pub disjoint : (v w : Value) (s : ℕ) → Hears h v s → Hears h w s → v ≡ w
   pub members : (v : Value) (s : ℕ) → Hears h v s → s < h .n
@@ -78,8 +82,8 @@ abbrev pub Other : Ballot → Value → Status → Type 0
 Other b v s = (b .value ≡ v → ⊥) ⊎ (b .status ≡ s → ⊥)
 
 -- "a ballot under the head's own number has a higher phase, or the same phase and another value or status"
-abbrev pub OwnFromAhead : Head → Ballot → Type 0
-OwnFromAhead h b = (b .sender ≡ h .own) × ((h .phase < b .phase) ⊎ ((b .phase ≡ h .phase) × Other b (h .value) (h .status)))
+abbrev pub OwnOtherwise : Head → Ballot → Type 0
+OwnOtherwise h b = (b .sender ≡ h .own) × ((h .phase < b .phase) ⊎ ((b .phase ≡ h .phase) × Other b (h .value) (h .status)))
 
 -- "two ballots of one sender and phase differ"
 abbrev pub Differ : Ballot → Ballot → Type 0
@@ -108,7 +112,7 @@ Quorum h = h .n < (size (h .zeros) + size (h .ones) + size (h .blanks)) * 2
 abbrev pub DecidesOtherwise : Head → Type 0
 DecidesOtherwise h =
     (h .status ≡ Decided)
-    × ((h .value ≡ Blank) ⊎ ((h .decision ≡ Unwritten → ⊥) × (h .decision ≡ decisionFor (h .value) → ⊥)))
+    × ((h .value ≡ Blank) ⊎ (WrittenDecision h × (h .decision ≡ decisionFor (h .value) → ⊥)))
 
 -- ---- the tables
 
@@ -140,7 +144,7 @@ laterTable h l coin =
     -- "a ballot breaks a ballot rule"
     ∷ (6 exactly-when SomeBallot l (Breaks (h .n) l))
     -- "a ballot under the head's own number has a higher phase, or the same phase and another value or status"
-    ∷ (7 exactly-when SomeBallot l (λ i. OwnFromAhead h (ballotAt l i)))
+    ∷ (7 exactly-when SomeBallot l (λ i. OwnOtherwise h (ballotAt l i)))
     -- "two ballots of one sender and phase differ; or one at the present phase differs in value from what that sender is
     -- held under"
     ∷ (8 exactly-when (TwoBallots l Differ ⊎ SomeBallot l (λ i. HeldOtherwise h (ballotAt l i))))
@@ -170,19 +174,18 @@ pub record SoundRecord (r : List ℕ) : Type 0 where
   pub zero : getD r 7 0 ≡ 0
   pub head : Sound (headAt r)
 
-abbrev pub startsTable : List ℕ → ℕ → ℕ → ℕ → List Row
-startsTable r n own proposal =
-    (1 exactly-when ((Heads n → ⊥) ⊎ (own < n → ⊥)))
-    ∷ (2 exactly-when (1 < proposal))
+abbrev pub startTableFromC : List ℕ → ℕ → ℕ → ℕ → List Row
+startTableFromC r n own proposal =
+    startTable n own proposal
     -- "at a start from C, record not 20 bytes"
-    ∷ (3 exactly-when (length r ≡ 20 → ⊥))
+    ++ (3 exactly-when (length r ≡ 20 → ⊥))
     ∷ []
 
-abbrev pub ticksTable : List ℕ → List ℕ → ℕ → List Row
-ticksTable r l coin = (3 exactly-when (SoundRecord r → ⊥)) ∷ laterTable (headAt r) l coin
+abbrev pub tickTableFromC : List ℕ → List ℕ → ℕ → List Row
+tickTableFromC r l coin = (3 exactly-when (SoundRecord r → ⊥)) ∷ laterTable (headAt r) l coin
 
-abbrev pub sendsTable : List ℕ → List ℕ → List Row
-sendsTable r buffer =
+abbrev pub sendTableFromC : List ℕ → List ℕ → List Row
+sendTableFromC r buffer =
     (3 exactly-when (SoundRecord r → ⊥))
     -- "one ballot .. written: not five bytes"
     ∷ (5 exactly-when (length buffer ≡ 5 → ⊥))

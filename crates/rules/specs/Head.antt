@@ -1,6 +1,6 @@
 -- Heads: soundness, the start, and what a head sends. Document 01, 'Heads and ballots'.
 use Prim.Native.Nat.{ℕ, _%_}
-use mathlib.Core.List.{[], _∷_}
+use mathlib.Core.List.{List, [], _∷_}
 use mathlib.Core.Bool.{Bool, cond, _&&_, _||_, not}
 use lib.Dec.{ltb, leb, eqb}
 use Rattle.rules.specs.declared.Value.{Value}
@@ -12,7 +12,7 @@ use Rattle.rules.specs.declared.Ballot.{Ballot}
 use Rattle.rules.specs.declared.Head.{Head}
 use Rattle.rules.specs.declared.Started.{Started}
 use Rattle.rules.specs.declared.Written.{Written}
-use Rattle.rules.specs.Number.{_when_, firstThatApplies}
+use Rattle.rules.specs.Number.{Line, _when_, firstThatApplies}
 use Rattle.rules.specs.Ballot.{valueCode, valueOf, statusCode, sameValue, bytesOf, obeys, notHeads}
 use Rattle.rules.specs.Heard.{member, apart, within, heard}
 
@@ -77,9 +77,12 @@ sound h =
     && (obeys (h .phase) (valueCode (h .value)) (statusCode (h .status))
     && (decisionFits h && (setsFit h && (phaseFits h && standsUnder h (h .own) (h .value))))))
 
--- 1: "start: n not 2 to 32; own number not below n"; 2: "start: proposal above 1"
+-- 1: "start or reading one ballot: n not 2 to 32; start: own number not below n"; 2: "start: proposal above 1"
+abbrev pub startLines : ℕ → ℕ → ℕ → List Line
+startLines n own proposal = (1 when (notHeads n || not (ltb own n))) ∷ (2 when ltb 1 proposal) ∷ []
+
 unfoldable pub startNumber : ℕ → ℕ → ℕ → ℕ
-startNumber n own proposal = firstThatApplies ((1 when (notHeads n || not (ltb own n))) ∷ (2 when ltb 1 proposal) ∷ [])
+startNumber n own proposal = firstThatApplies (startLines n own proposal)
 
 -- "It starts at phase 1, value = proposal, undecided, no decision, nothing heard."
 abbrev pub fresh : ℕ → ℕ → ℕ → Head

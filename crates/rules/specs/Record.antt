@@ -1,6 +1,6 @@
 -- A head as the record of 20 bytes that the heads' firmware holds. Document 01, 'Heads and ballots'.
 use Prim.Native.Nat.{ℕ, _+_, _*_, _/_, _%_}
-use mathlib.Core.List.{List, [], _∷_}
+use mathlib.Core.List.{List, [], _∷_, _++_}
 use mathlib.Core.Bool.{Bool, cond, _&&_, _||_, not}
 use lib.ListN.{length, getD, replicate}
 use lib.Dec.{ltb, eqb}
@@ -9,7 +9,7 @@ use Rattle.rules.specs.declared.Decision.the-variants.{Zero as ForZero, 
 use Rattle.rules.specs.declared.Head.{Head}
 use Rattle.rules.specs.Number.{_when_, firstThatApplies}
 use Rattle.rules.specs.Ballot.{valueCode, valueOf, statusCode, statusOf, bytesOf, notHeads}
-use Rattle.rules.specs.Head.{decisionCode, sound, startOf, ballotOf}
+use Rattle.rules.specs.Head.{decisionCode, sound, startLines, startOf, ballotOf}
 use Rattle.rules.specs.Tick.{tickNumber, tickOf}
 
 -- "n, own number, phase (2, high byte first), value, status, decision (2 for none), a zero byte, then the sets for 0, 1
@@ -30,8 +30,8 @@ unfoldable pub decisionOf : ℕ → Decision
 decisionOf code = cond (eqb code 0) ForZero (cond (eqb code 1) ForOne Unwritten)
 
 -- four bytes from index i on, high byte first
-abbrev pub wordAt : List ℕ → ℕ → ℕ
-wordAt r i = ((getD r i 0 * 256 + getD r (i + 1) 0) * 256 + getD r (i + 2) 0) * 256 + getD r (i + 3) 0
+abbrev pub fourBytesAt : List ℕ → ℕ → ℕ
+fourBytesAt r i = ((getD r i 0 * 256 + getD r (i + 1) 0) * 256 + getD r (i + 2) 0) * 256 + getD r (i + 3) 0
 
 -- the head that a record holds
 unfoldable pub headAt : List ℕ → Head
@@ -43,9 +43,9 @@ headAt r =
       value = valueOf (getD r 4 0);
       status = statusOf (getD r 5 0);
       decision = decisionOf (getD r 6 0);
-      zeros = wordAt r 8;
-      ones = wordAt r 12;
-      blanks = wordAt r 16;
+      zeros = fourBytesAt r 8;
+      ones = fourBytesAt r 12;
+      blanks = fourBytesAt r 16;
     }
 
 -- 3: "head not sound"
@@ -53,25 +53,24 @@ unfoldable pub notSound : List ℕ → Bool
 notSound r = not (isRecord r && sound (headAt r))
 
 -- A start from C: 1, 2, then 3, "at a start from C, record not 20 bytes"; "from C the record is unchanged" where refused.
-unfoldable pub startsNumber : List ℕ → ℕ → ℕ → ℕ → ℕ
-startsNumber r n own proposal =
-    firstThatApplies
-    ((1 when (notHeads n || not (ltb own n))) ∷ (2 when ltb 1 proposal) ∷ (3 when not (eqb (length r) 20)) ∷ [])
+unfoldable pub startNumberFromC : List ℕ → ℕ → ℕ → ℕ → ℕ
+startNumberFromC r n own proposal =
+    firstThatApplies (startLines n own proposal ++ (3 when not (eqb (length r) 20)) ∷ [])
 
-unfoldable pub startsRecord : List ℕ → ℕ → ℕ → ℕ → List ℕ
-startsRecord r n own proposal = cond (eqb (startsNumber r n own proposal) 0) (recordOf (startOf n own proposal .head)) r
+unfoldable pub recordAfterStart : List ℕ → ℕ → ℕ → ℕ → List ℕ
+recordAfterStart r n own proposal = cond (eqb (startNumberFromC r n own proposal) 0) (recordOf (startOf n own proposal .head)) r
 
 -- A tick from C; refused, "no byte of a lent record .. changes".
-unfoldable pub ticksNumber : List ℕ → List ℕ → ℕ → ℕ
-ticksNumber r l coin = cond (isRecord r) (tickNumber (headAt r) l coin) 3
+unfoldable pub tickNumberFromC : List ℕ → List ℕ → ℕ → ℕ
+tickNumberFromC r l coin = cond (isRecord r) (tickNumber (headAt r) l coin) 3
 
-unfoldable pub ticksRecord : List ℕ → List ℕ → ℕ → List ℕ
-ticksRecord r l coin = cond (eqb (ticksNumber r l coin) 0) (recordOf (tickOf (headAt r) l coin .head)) r
+unfoldable pub recordAfterTick : List ℕ → List ℕ → ℕ → List ℕ
+recordAfterTick r l coin = cond (eqb (tickNumberFromC r l coin) 0) (recordOf (tickOf (headAt r) l coin .head)) r
 
 -- A ballot from C: "Where a buffer is lent for it, a length other than five is 5, after 3, and either refusal leaves
 -- every byte of that buffer zero."
-unfoldable pub sendsNumber : List ℕ → List ℕ → ℕ
-sendsNumber r buffer = firstThatApplies ((3 when notSound r) ∷ (5 when not (eqb (length buffer) 5)) ∷ [])
+unfoldable pub sendNumberFromC : List ℕ → List ℕ → ℕ
+sendNumberFromC r buffer = firstThatApplies ((3 when notSound r) ∷ (5 when not (eqb (length buffer) 5)) ∷ [])
 
-unfoldable pub sendsBuffer : List ℕ → List ℕ → List ℕ
-sendsBuffer r buffer = cond (eqb (sendsNumber r buffer) 0) (bytesOf (ballotOf (headAt r))) (replicate (length buffer) 0)
+unfoldable pub bufferAfterSend : List ℕ → List ℕ → List ℕ
+bufferAfterSend r buffer = cond (eqb (sendNumberFromC r buffer) 0) (bytesOf (ballotOf (headAt r))) (replicate (length buffer) 0)

@@ -8,13 +8,12 @@ use mathlib.Core.Bool.{cond}
 use mathlib.Core.Logic.{_⊎_}
 use lib.ListN.{length, take, drop}
 use lib.Dec.{eqb}
-use Rattle.rules.specs.declared.Decision.the-variants.{Unwritten}
 use Rattle.rules.specs.declared.Ballot.{Ballot}
 use Rattle.rules.specs.declared.Head.{Head}
 use Rattle.rules.specs.Ballot.{valueOf, bytesOf}
 use Rattle.rules.specs.Head.{decisionFor, startOf, ballotOf}
 use Rattle.rules.specs.Tick.{ballots, gathered, tickNumber, tickOf}
-use Rattle.rules.specs.Given.{Heads, Quorum}
+use Rattle.rules.specs.Given.{Heads, WrittenDecision, Quorum}
 
 -- n heads, and what each proposes
 pub record Vote : Type 0 where
@@ -65,31 +64,29 @@ Run vote (e ∷ events) = Run vote events × Allowed vote events e
 
 -- ---- what demand 3 says of a run
 
-abbrev pub Written : Head → Type 0
-Written h = h .decision ≡ Unwritten → ⊥
-
 -- "No two decisions differ"
 abbrev pub NoTwoDecisionsDiffer : Vote → List Event → Type 0
 NoTwoDecisionsDiffer vote events =
-    (s t : ℕ) → s < vote .n → t < vote .n → Written (headIn vote events s) → Written (headIn vote events t)
+    (s t : ℕ) → s < vote .n → t < vote .n → WrittenDecision (headIn vote events s) → WrittenDecision (headIn vote events t)
     → headIn vote events s .decision ≡ headIn vote events t .decision
 
 -- "each was proposed by some head"
 abbrev pub EachWasProposed : Vote → List Event → Type 0
 EachWasProposed vote events =
-    (s : ℕ) → s < vote .n → Written (headIn vote events s)
+    (s : ℕ) → s < vote .n → WrittenDecision (headIn vote events s)
     → (t : ℕ) × (t < vote .n) × (headIn vote events s .decision ≡ decisionFor (valueOf (vote .proposal t)))
 
 -- "a written one stays"
 abbrev pub AWrittenOneStays : Vote → List Event → List Event → Type 0
 AWrittenOneStays vote events later =
-    (s : ℕ) → s < vote .n → Written (headIn vote events s) → headIn vote (later ++ events) s .decision ≡ headIn vote events s .decision
+    (s : ℕ) → s < vote .n → WrittenDecision (headIn vote events s) → headIn vote (later ++ events) s .decision ≡ headIn vote events s .decision
 
 -- "no tick is refused unless its step needs phase 65,536": of the tick that comes after the events
 abbrev pub NotRefusedBeforeTheLastPhase : Vote → List Event → Event → Type 0
 NotRefusedBeforeTheLastPhase vote events e =
-    (tickNumber (headIn vote events (e .head)) (e .bytes) (e .coin) ≡ 0)
-    ⊎ ((tickNumber (headIn vote events (e .head)) (e .bytes) (e .coin) ≡ 10) × Quorum (gathered (headIn vote events (e .head)) (e .bytes)) × (gathered (headIn vote events (e .head)) (e .bytes) .phase ≡ 65535))
+    let h = headIn vote events (e .head) in
+    let number = tickNumber h (e .bytes) (e .coin) in
+    (number ≡ 0) ⊎ ((number ≡ 10) × Quorum (gathered h (e .bytes)) × (gathered h (e .bytes) .phase ≡ 65535))
 
 -- "every head decides that bit"
 abbrev pub EveryHeadDecides : Vote → List Event → ℕ → Type 0

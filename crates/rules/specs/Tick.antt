@@ -121,8 +121,8 @@ unfoldable pub sameState : Ballot → Ballot → Bool
 sameState a b = sameValue (a .value) (b .value) && sameStatus (a .status) (b .status)
 
 -- 7: "a ballot under the head's own number has a higher phase, or the same phase and another value or status"
-unfoldable pub ownFromAhead : Head → Ballot → Bool
-ownFromAhead h b =
+unfoldable pub ownOtherwise : Head → Ballot → Bool
+ownOtherwise h b =
     eqb (b .sender) (h .own)
     && (ltb (h .phase) (b .phase) || (eqb (b .phase) (h .phase) && not (sameState b (ballotOf h))))
 
@@ -158,7 +158,7 @@ tickNumber h l coin =
     ∷ (4 when ltb 1 coin)
     ∷ (5 when notList l)
     ∷ (6 when some (ballots l) (breaksRule (h .n) l))
-    ∷ (7 when some (ballots l) (λ i. ownFromAhead h (ballotAt l i)))
+    ∷ (7 when some (ballots l) (λ i. ownOtherwise h (ballotAt l i)))
     ∷ (8 when some (ballots l) (contradicts h l))
     ∷ (9 when bothHeard (gathered h l))
     ∷ (10 when phasesEnd (gathered h l))

@@ -40,10 +40,6 @@ part-is start size from more xs a b =
     ap (λ (k : ℕ). take k (drop from xs)) back ∙ take-least size (drop from xs)
     ∙ ap (take size) (ap (λ (k : ℕ). drop k xs) a ∙ drop-least start xs)
 
--- a part is no longer than what it was asked for, nor than what there is from its start on
-pub part-short : (start size : ℕ) (xs : List ℕ) → length (take size (drop start xs)) ≤ size
-part-short start size xs = omega (arith, length-take size (drop start xs))
-
 -- a round's place among the rounds is small
 pub place-small : (r n : ℕ) → r < 256 → n ≤ 32 → r * n ≤ 8192
 place-small r n a b = let few : r ≤ 256 = omega arith in mul-le-mul few b

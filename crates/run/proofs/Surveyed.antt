@@ -17,13 +17,14 @@ use Rattle.rules.specs.Ballot.{statusCode, bytesOf}
 use Rattle.rules.specs.Heard.{member}
 use Rattle.rules.specs.Head.{zeroHead, isDecided, ballotOf}
 use Rattle.rules.specs.Tick.{tickOf}
-use Rattle.rules.specs.Record.{wordAt}
+use Rattle.rules.specs.Record.{fourBytesAt}
+use Rattle.rules.specs.Run.{fiveAt}
 use Rattle.rules.proofs.Below.{count-le}
 use Rattle.rules.proofs.Sets.{member-none}
 use Rattle.file.specs.Table.{headOf, placed, receivedIn, tickedIn, roundIn}
 use Rattle.file.specs.Figures.{decidedIn}
 use Rattle.run.specs.declared.heads.Survey.{Survey}
-use Rattle.run.specs.Survey.{noted, surveyOf, fiveAt, receivedFrom, tickedBy, tickedAll}
+use Rattle.run.specs.Survey.{noted, surveyOf, receivedFrom, tickedBy, tickedAll}
 use Rattle.run.proofs.Parts.{sets-before, sets-at}
 
 -- ---- how many are decided
@@ -102,4 +103,4 @@ round-is n rows coins table small = go n (omega arith)
     go zero h = refl
     go (suc k) h =
         ap₂ (λ (t : List Head) (g : Head). set t k g) (go k (omega arith))
-        (ap₂ (λ (g : Head) (list : List ℕ). tickOf g list (getD coins k 0) .head) (rest before n rows coins k table k (omega arith)) (received-is n table (wordAt rows (k * 4)) n (omega arith) small))
+        (ap₂ (λ (g : Head) (list : List ℕ). tickOf g list (getD coins k 0) .head) (rest before n rows coins k table k (omega arith)) (received-is n table (fourBytesAt rows (k * 4)) n (omega arith) small))

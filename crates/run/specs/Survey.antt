@@ -3,14 +3,15 @@
 use Prim.Native.Nat.{ℕ, zero, suc, _+_, _*_}
 use mathlib.Core.List.{List, [], _++_}
 use mathlib.Core.Bool.{Bool, cond}
-use lib.ListN.{getD, set, take, drop, replicate}
+use lib.ListN.{getD, set, replicate}
 use lib.Seq.{sets}
 use Rattle.rules.specs.declared.Head.{Head}
 use Rattle.rules.specs.Ballot.{statusCode, bytesOf}
 use Rattle.rules.specs.Heard.{member}
 use Rattle.rules.specs.Head.{ballotOf}
 use Rattle.rules.specs.Tick.{tickOf}
-use Rattle.rules.specs.Record.{wordAt}
+use Rattle.rules.specs.Run.{fiveAt}
+use Rattle.rules.specs.Record.{fourBytesAt}
 use Rattle.file.specs.Table.{headOf}
 use Rattle.run.specs.declared.heads.Survey.{Survey}
 
@@ -31,10 +32,6 @@ surveyOf (suc k) table = noted (surveyOf k table) k (headOf table k)
 abbrev pub keptBytes : Bool → ℕ
 keptBytes lost = cond lost 0 5
 
--- the bytes of ballot k
-abbrev pub fiveAt : List ℕ → ℕ → List ℕ
-fiveAt ballots k = take 5 (drop (k * 5) ballots)
-
 -- those of the first k ballots that are not lost, in sender order
 unfoldable pub receivedFrom : List ℕ → ℕ → ℕ → List ℕ
 receivedFrom ballots lost zero = []
@@ -42,7 +39,7 @@ receivedFrom ballots lost (suc k) = receivedFrom ballots lost k ++ cond (member 
 
 -- head i after its tick
 unfoldable pub tickedBy : Survey → ℕ → List ℕ → List ℕ → ℕ → Head → Head
-tickedBy before n rows coins i h = tickOf h (receivedFrom (before .ballots) (wordAt rows (i * 4)) n) (getD coins i 0) .head
+tickedBy before n rows coins i h = tickOf h (receivedFrom (before .ballots) (fourBytesAt rows (i * 4)) n) (getD coins i 0) .head
 
 -- the table when the first k heads have been ticked
 unfoldable pub tickedAll : Survey → ℕ → List ℕ → List ℕ → ℕ → List Head → List Head

@@ -8,10 +8,10 @@ ghost use lib.ListN.{length, getD, take, drop};
 ghost use Rattle.rules.specs.Below.{first};
 ghost use Rattle.rules.specs.Ballot.{notHeads};
 ghost use Rattle.rules.specs.Heard.{within};
-ghost use Rattle.rules.specs.Record.{wordAt};
+ghost use Rattle.rules.specs.Record.{fourBytesAt};
 ghost use Rattle.file.specs.Section.{countAt, bodyOf, counted as countedOf, unlessBroken, checked, notRow, proposalsOf, neededOf, lossesOf, coinsOf};
 ghost use Rattle.run.specs.Sections.{Near, outside};
-use codes::word_of;
+use codes::four_bytes_of;
 use file::Section;
 
 // "Count n (2 to 32), then n proposals (0 or 1)."
@@ -88,9 +88,9 @@ pub(crate) fn count_at(file: &[u8], place: usize) -> usize
 // "rows of 4 bytes, high byte first"
 pub(crate) fn row_at(rows: &[u8], place: usize) -> u32
     requires { ⌜ place ≤ 8388480 ⌝ }
-    ensures { λ r. ⌜ r ≡ wordAt (now (rows .entry)) place ⌝ }
+    ensures { λ r. ⌜ r ≡ fourBytesAt (now (rows .entry)) place ⌝ }
 {
-    word_of(
+    four_bytes_of(
         byte_at(rows, place),
         byte_at(rows, place + 1),
         byte_at(rows, place + 2),

@@ -3,15 +3,15 @@
 ghost use mathlib.Core.Path.{_≡_};
 ghost use Prim.Native.Nat.{_+_, _*_};
 ghost use lib.ListN.{length, replicate};
-ghost use Rattle.rules.specs.Record.{recordOf, isRecord, headAt, startsNumber, startsRecord, ticksNumber, ticksRecord, sendsNumber, sendsBuffer};
+ghost use Rattle.rules.specs.Record.{recordOf, isRecord, headAt, startNumberFromC, recordAfterStart, tickNumberFromC, recordAfterTick, sendNumberFromC, bufferAfterSend};
 use codes::decision_code;
 use codes::decision_of;
+use codes::four_bytes_of;
 use codes::phase_of;
 use codes::status_code;
 use codes::status_of;
 use codes::value_code;
 use codes::value_of;
-use codes::word_of;
 use engine::send;
 use engine::start;
 use engine::tick;
@@ -19,7 +19,7 @@ use rules::Head;
 
 #[no_mangle]
 pub extern "C" fn vote_start(head_record: &mut [u8], n: u32, own: u32, proposal: u32) -> u32
-    ensures { λ r. ⌜ (r ≡ startsNumber (now (head_record .entry)) n own proposal) × (now (head_record .exit) ≡ startsRecord (now (head_record .entry)) n own proposal) ⌝ }
+    ensures { λ r. ⌜ (r ≡ startNumberFromC (now (head_record .entry)) n own proposal) × (now (head_record .exit) ≡ recordAfterStart (now (head_record .entry)) n own proposal) ⌝ }
 {
     let started = start(n, own, proposal);
     if started.number != 0 {
@@ -35,7 +35,7 @@ pub extern "C" fn vote_start(head_record: &mut [u8], n: u32, own: u32, proposal:
 
 #[no_mangle]
 pub extern "C" fn vote_tick(head_record: &mut [u8], ballots: &[u8], coin: u32) -> u32
-    ensures { λ r. ⌜ (r ≡ ticksNumber (now (head_record .entry)) (now (ballots .entry)) coin) × (now (head_record .exit) ≡ ticksRecord (now (head_record .entry)) (now (ballots .entry)) coin) ⌝ }
+    ensures { λ r. ⌜ (r ≡ tickNumberFromC (now (head_record .entry)) (now (ballots .entry)) coin) × (now (head_record .exit) ≡ recordAfterTick (now (head_record .entry)) (now (ballots .entry)) coin) ⌝ }
 {
     if !is_record(head_record) {
         return 3;
@@ -51,7 +51,7 @@ pub extern "C" fn vote_tick(head_record: &mut [u8], ballots: &[u8], coin: u32) -
 
 #[no_mangle]
 pub extern "C" fn vote_ballot(head_record: &[u8], ballot: &mut [u8]) -> u32
-    ensures { λ r. ⌜ (r ≡ sendsNumber (now (head_record .entry)) (now (ballot .entry))) × (now (ballot .exit) ≡ sendsBuffer (now (head_record .entry)) (now (ballot .entry))) ⌝ }
+    ensures { λ r. ⌜ (r ≡ sendNumberFromC (now (head_record .entry)) (now (ballot .entry))) × (now (ballot .exit) ≡ bufferAfterSend (now (head_record .entry)) (now (ballot .entry))) ⌝ }
 {
     if !is_record(head_record) {
         clear(ballot);
@@ -91,19 +91,19 @@ fn head_at(head_record: &[u8]) -> Head
         value: value_of(head_record[4]),
         status: status_of(head_record[5]),
         decision: decision_of(head_record[6]),
-        zeros: word_of(
+        zeros: four_bytes_of(
             head_record[8],
             head_record[9],
             head_record[10],
             head_record[11],
         ),
-        ones: word_of(
+        ones: four_bytes_of(
             head_record[12],
             head_record[13],
             head_record[14],
             head_record[15],
         ),
-        blanks: word_of(
+        blanks: four_bytes_of(
             head_record[16],
             head_record[17],
             head_record[18],

@@ -36,54 +36,54 @@ shared-slice-read-decision-of c = search needs
 decision-of-requires : tie.Need-decision-of-requires
 decision-of-requires c κs = search needs
 
-shared-slice-read-word-of : tie.Need-shared-slice-read-word-of
-shared-slice-read-word-of c = search needs
+shared-slice-read-four-bytes-of : tie.Need-shared-slice-read-four-bytes-of
+shared-slice-read-four-bytes-of c = search needs
 
-shared-slice-read-word-of-2 : tie.Need-shared-slice-read-word-of-2
-shared-slice-read-word-of-2 c = search needs
+shared-slice-read-four-bytes-of-2 : tie.Need-shared-slice-read-four-bytes-of-2
+shared-slice-read-four-bytes-of-2 c = search needs
 
-shared-slice-read-word-of-3 : tie.Need-shared-slice-read-word-of-3
-shared-slice-read-word-of-3 c = search needs
+shared-slice-read-four-bytes-of-3 : tie.Need-shared-slice-read-four-bytes-of-3
+shared-slice-read-four-bytes-of-3 c = search needs
 
-shared-slice-read-word-of-4 : tie.Need-shared-slice-read-word-of-4
-shared-slice-read-word-of-4 c = search needs
+shared-slice-read-four-bytes-of-4 : tie.Need-shared-slice-read-four-bytes-of-4
+shared-slice-read-four-bytes-of-4 c = search needs
 
-word-of-requires : tie.Need-word-of-requires
-word-of-requires c κs = search needs
+four-bytes-of-requires : tie.Need-four-bytes-of-requires
+four-bytes-of-requires c κs = search needs
 
-shared-slice-read-word-of-5 : tie.Need-shared-slice-read-word-of-5
-shared-slice-read-word-of-5 c = search needs
+shared-slice-read-four-bytes-of-5 : tie.Need-shared-slice-read-four-bytes-of-5
+shared-slice-read-four-bytes-of-5 c = search needs
 
-shared-slice-read-word-of-6 : tie.Need-shared-slice-read-word-of-6
-shared-slice-read-word-of-6 c = search needs
+shared-slice-read-four-bytes-of-6 : tie.Need-shared-slice-read-four-bytes-of-6
+shared-slice-read-four-bytes-of-6 c = search needs
 
-shared-slice-read-word-of-7 : tie.Need-shared-slice-read-word-of-7
-shared-slice-read-word-of-7 c = search needs
+shared-slice-read-four-bytes-of-7 : tie.Need-shared-slice-read-four-bytes-of-7
+shared-slice-read-four-bytes-of-7 c = search needs
 
-shared-slice-read-word-of-8 : tie.Need-shared-slice-read-word-of-8
-shared-slice-read-word-of-8 c = search needs
+shared-slice-read-four-bytes-of-8 : tie.Need-shared-slice-read-four-bytes-of-8
+shared-slice-read-four-bytes-of-8 c = search needs
 
-word-of-requires-2 : tie.Need-word-of-requires-2
-word-of-requires-2 c κs = search needs
+four-bytes-of-requires-2 : tie.Need-four-bytes-of-requires-2
+four-bytes-of-requires-2 c κs = search needs
 
-shared-slice-read-word-of-9 : tie.Need-shared-slice-read-word-of-9
-shared-slice-read-word-of-9 c = search needs
+shared-slice-read-four-bytes-of-9 : tie.Need-shared-slice-read-four-bytes-of-9
+shared-slice-read-four-bytes-of-9 c = search needs
 
-shared-slice-read-word-of-10 : tie.Need-shared-slice-read-word-of-10
-shared-slice-read-word-of-10 c = search needs
+shared-slice-read-four-bytes-of-10 : tie.Need-shared-slice-read-four-bytes-of-10
+shared-slice-read-four-bytes-of-10 c = search needs
 
-shared-slice-read-word-of-11 : tie.Need-shared-slice-read-word-of-11
-shared-slice-read-word-of-11 c = search needs
+shared-slice-read-four-bytes-of-11 : tie.Need-shared-slice-read-four-bytes-of-11
+shared-slice-read-four-bytes-of-11 c = search needs
 
-shared-slice-read-word-of-12 : tie.Need-shared-slice-read-word-of-12
-shared-slice-read-word-of-12 c = search needs
+shared-slice-read-four-bytes-of-12 : tie.Need-shared-slice-read-four-bytes-of-12
+shared-slice-read-four-bytes-of-12 c = search needs
 
-word-of-requires-3 : tie.Need-word-of-requires-3
-word-of-requires-3 c κs = search needs
+four-bytes-of-requires-3 : tie.Need-four-bytes-of-requires-3
+four-bytes-of-requires-3 c κs = search needs
 
 returns : tie.Need-returns
 unfolding headAt
-returns c = simp (c .word-of3 .ensures, c .before .before .before .before .before .word-of2 .ensures, c .before .before .before .before .before .before .before .before .before .before .word-of .ensures, c .before .before .before .before .before .before .before .before .before .before .before .before .before .before .before .before .before .before .before .before .before .phase-of .ensures, c .before .before .before .before .before .before .before .before .before .before .before .before .before .before .before .before .before .before .before .value-of .ensures, c .before .before .before .before .before .before .before .before .before .before .before .before .before .before .before .before .before .status-of .ensures, c .before .before .before .before .before .before .before .before .before .before .before .before .before .before .before .decision-of .ensures)
+returns c = simp (c .four-bytes-of3 .ensures, c .before .before .before .before .before .four-bytes-of2 .ensures, c .before .before .before .before .before .before .before .before .before .before .four-bytes-of .ensures, c .before .before .before .before .before .before .before .before .before .before .before .before .before .before .before .before .before .before .before .before .before .phase-of .ensures, c .before .before .before .before .before .before .before .before .before .before .before .before .before .before .before .before .before .before .before .value-of .ensures, c .before .before .before .before .before .before .before .before .before .before .before .before .before .before .before .before .before .status-of .ensures, c .before .before .before .before .before .before .before .before .before .before .before .before .before .before .before .decision-of .ensures)
 
 pub head-at-spec : {M : Type 1} → statement M
 head-at-spec =
@@ -100,19 +100,19 @@ head-at-spec =
     status-of-requires
     shared-slice-read-decision-of
     decision-of-requires
-    shared-slice-read-word-of
-    shared-slice-read-word-of-2
-    shared-slice-read-word-of-3
-    shared-slice-read-word-of-4
-    word-of-requires
-    shared-slice-read-word-of-5
-    shared-slice-read-word-of-6
-    shared-slice-read-word-of-7
-    shared-slice-read-word-of-8
-    word-of-requires-2
-    shared-slice-read-word-of-9
-    shared-slice-read-word-of-10
-    shared-slice-read-word-of-11
-    shared-slice-read-word-of-12
-    word-of-requires-3
+    shared-slice-read-four-bytes-of
+    shared-slice-read-four-bytes-of-2
+    shared-slice-read-four-bytes-of-3
+    shared-slice-read-four-bytes-of-4
+    four-bytes-of-requires
+    shared-slice-read-four-bytes-of-5
+    shared-slice-read-four-bytes-of-6
+    shared-slice-read-four-bytes-of-7
+    shared-slice-read-four-bytes-of-8
+    four-bytes-of-requires-2
+    shared-slice-read-four-bytes-of-9
+    shared-slice-read-four-bytes-of-10
+    shared-slice-read-four-bytes-of-11
+    shared-slice-read-four-bytes-of-12
+    four-bytes-of-requires-3
     returns)

@@ -4,7 +4,7 @@ use lib.ListN.{length}
 use Rattle.rules.specs.declared.Written.{Written}
 use Rattle.rules.specs.Number.{firstThatApplies}
 use Rattle.rules.specs.Head.{sendOf}
-use Rattle.rules.specs.Record.{notSound, sendsNumber, sendsBuffer}
+use Rattle.rules.specs.Record.{notSound, sendNumberFromC, bufferAfterSend}
 use Rattle.rules.proofs.Answers.{record-length, send-sound, send-unsound, send-bytes}
 use Rattle.vote.proofs.Whole.{whole}
 use borrow.Author.Needs.{needs}
@@ -22,7 +22,7 @@ same-length : tie.Need-same-length
 same-length c = search needs
 
 returns : tie.Need-returns
-unfolding sendsNumber sendsBuffer notSound firstThatApplies
+unfolding sendNumberFromC bufferAfterSend notSound firstThatApplies
 returns c = (simp (← c .before .before .before .before .before .is-record .ensures, not-true (c .before .before .before .before .before .is-record .result) (c .before .before .before .before .if1 .taken)), simp (← c .before .before .before .before .before .is-record .ensures, not-true (c .before .before .before .before .before .is-record .result) (c .before .before .before .before .if1 .taken)) (c .before .before .clear .ensures))
 
 head-at-requires : tie.Need-head-at-requires
@@ -38,7 +38,7 @@ same-length-2 : tie.Need-same-length-2
 same-length-2 c = search needs
 
 returns-2 : tie.Need-returns-2
-unfolding sendsNumber sendsBuffer notSound firstThatApplies
+unfolding sendNumberFromC bufferAfterSend notSound firstThatApplies
 returns-2 c = (simp (← c .before .before .before .before .before .before .before .before .before .is-record .ensures, not-false (c .before .before .before .before .before .before .before .before .before .is-record .result) (c .before .before .before .before .before .before .before .before .if1 .left), send-unsound _ (λ z. c .before .before .before .before .if2 .taken (ap (λ (w : Written). w .number) (c .before .before .before .before .before .before .send .ensures ∙ ap sendOf (c .before .before .before .before .before .before .before .head-at .ensures)) ∙ z))), simp (← c .before .before .before .before .before .before .before .before .before .is-record .ensures, not-false (c .before .before .before .before .before .before .before .before .before .is-record .result) (c .before .before .before .before .before .before .before .before .if1 .left), send-unsound _ (λ z. c .before .before .before .before .if2 .taken (ap (λ (w : Written). w .number) (c .before .before .before .before .before .before .send .ensures ∙ ap sendOf (c .before .before .before .before .before .before .before .head-at .ensures)) ∙ z))) (c .before .before .clear2 .ensures))
 
 clear-requires-3 : tie.Need-clear-requires-3
@@ -48,7 +48,7 @@ same-length-3 : tie.Need-same-length-3
 same-length-3 c = search needs
 
 returns-3 : tie.Need-returns-3
-unfolding sendsNumber sendsBuffer notSound firstThatApplies
+unfolding sendNumberFromC bufferAfterSend notSound firstThatApplies
 returns-3 c = (simp (← c .before .before .before .before .before .before .before .before .before .before .is-record .ensures, not-false (c .before .before .before .before .before .before .before .before .before .before .is-record .result) (c .before .before .before .before .before .before .before .before .before .if1 .left), send-sound _ (sym (ap (λ (w : Written). w .number) (c .before .before .before .before .before .before .before .send .ensures ∙ ap sendOf (c .before .before .before .before .before .before .before .before .head-at .ensures))) ∙ c .before .before .before .before .before .if2 .left), ne-eqb _ _ (c .before .before .before .before .if3 .taken)), simp (← c .before .before .before .before .before .before .before .before .before .before .is-record .ensures, not-false (c .before .before .before .before .before .before .before .before .before .before .is-record .result) (c .before .before .before .before .before .before .before .before .before .if1 .left), send-sound _ (sym (ap (λ (w : Written). w .number) (c .before .before .before .before .before .before .before .send .ensures ∙ ap sendOf (c .before .before .before .before .before .before .before .before .head-at .ensures))) ∙ c .before .before .before .before .before .if2 .left), ne-eqb _ _ (c .before .before .before .before .if3 .taken)) (c .before .before .clear3 .ensures))
 
 slice-aggregate-copy : tie.Need-slice-aggregate-copy
@@ -61,7 +61,7 @@ same-length-4 : tie.Need-same-length-4
 same-length-4 c = search needs
 
 returns-4 : tie.Need-returns-4
-unfolding sendsNumber sendsBuffer notSound firstThatApplies
+unfolding sendNumberFromC bufferAfterSend notSound firstThatApplies
 returns-4 c = (simp (← c .before .before .before .before .before .before .before .before .before .before .before .before .is-record .ensures, not-false (c .before .before .before .before .before .before .before .before .before .before .before .before .is-record .result) (c .before .before .before .before .before .before .before .before .before .before .before .if1 .left), send-sound _ (sym (ap (λ (w : Written). w .number) (c .before .before .before .before .before .before .before .before .before .send .ensures ∙ ap sendOf (c .before .before .before .before .before .before .before .before .before .before .head-at .ensures))) ∙ c .before .before .before .before .before .before .before .if2 .left), eq-eqb _ _ (c .before .before .before .before .before .before .if3 .left)), simp (← c .before .before .before .before .before .before .before .before .before .before .before .before .is-record .ensures, not-false (c .before .before .before .before .before .before .before .before .before .before .before .before .is-record .result) (c .before .before .before .before .before .before .before .before .before .before .before .if1 .left), send-sound _ (sym (ap (λ (w : Written). w .number) (c .before .before .before .before .before .before .before .before .before .send .ensures ∙ ap sendOf (c .before .before .before .before .before .before .before .before .before .before .head-at .ensures))) ∙ c .before .before .before .before .before .before .before .if2 .left), eq-eqb _ _ (c .before .before .before .before .before .before .if3 .left)) (c .before .before .copy .ensures .1 ∙ whole _ _ (ap length (ap (λ (w : Written). w .bytes) (c .before .before .before .before .before .before .before .before .before .send .ensures ∙ ap sendOf (c .before .before .before .before .before .before .before .before .before .before .head-at .ensures)) ∙ send-bytes _ (send-sound _ (sym (ap (λ (w : Written). w .number) (c .before .before .before .before .before .before .before .before .before .send .ensures ∙ ap sendOf (c .before .before .before .before .before .before .before .before .before .before .head-at .ensures))) ∙ c .before .before .before .before .before .before .before .if2 .left))) ∙ sym (c .before .before .before .before .before .before .if3 .left)) ∙ (ap (λ (w : Written). w .bytes) (c .before .before .before .before .before .before .before .before .before .send .ensures ∙ ap sendOf (c .before .before .before .before .before .before .before .before .before .before .head-at .ensures)) ∙ send-bytes _ (send-sound _ (sym (ap (λ (w : Written). w .number) (c .before .before .before .before .before .before .before .before .before .send .ensures ∙ ap sendOf (c .before .before .before .before .before .before .before .before .before .before .head-at .ensures))) ∙ c .before .before .before .before .before .before .before .if2 .left)))))
 
 pub vote-ballot-spec : {M : Type 1} → statement M

@@ -1,21 +1,30 @@
-use Rattle.rules.specs.Tick.{decidesOtherwise}
 use borrow.Author.Needs.{needs}
+use Rattle.rules.specs.Tick.{decidesOtherwise}
 use Rattle.engine.proofs.ticks.decides_otherwise.Statement.{statement}
 use Rattle.engine.proofs.ticks.decides_otherwise.Tie as tie
+
+is-decided-requires : tie.Need-is-decided-requires
+is-decided-requires c κs = search needs
 
 value-code-requires : tie.Need-value-code-requires
 value-code-requires c κs = search needs
 
-decision-code-requires : tie.Need-decision-code-requires
-decision-code-requires c κs = search needs
+is-written-requires : tie.Need-is-written-requires
+is-written-requires c κs = search needs
 
-status-code-requires : tie.Need-status-code-requires
-status-code-requires c κs = search needs
+decision-is-value-requires : tie.Need-decision-is-value-requires
+decision-is-value-requires c κs = search needs
 
 returns : tie.Need-returns
 unfolding decidesOtherwise
-returns c = simp (c .before .before .value-code .ensures, c .status-code .ensures, c .before .decision-code .ensures)
+returns c = simp (c .decision-is-value .ensures, c .before .is-written .ensures, c .before .before .value-code .ensures, c .before .before .before .is-decided .ensures)
 
 pub decides-otherwise-spec : {M : Type 1} → statement M
 decides-otherwise-spec =
-    tie.close (tie.spec value-code-requires decision-code-requires status-code-requires returns)
+    tie.close
+    (tie.spec
+    is-decided-requires
+    value-code-requires
+    is-written-requires
+    decision-is-value-requires
+    returns)

@@ -5,12 +5,12 @@ use native.Mathlib.Nat.{le-antisymm}
 use native.Mathlib.Omega.{arith}
 use borrow.Author.Needs.{needs}
 use Rattle.rules.specs.Heard.{size}
-use Rattle.rules.specs.Record.{wordAt}
+use Rattle.rules.specs.Record.{fourBytesAt}
 use Rattle.file.specs.Figures.{lostIn}
 use Rattle.run.proofs.figures.lost_in.Statement.{statement}
 use Rattle.run.proofs.figures.lost_in.Tie as tie
 
-lost-more : (rows : List ℕ) (k lost here : ℕ) → lost ≡ lostIn rows k → here ≡ size (wordAt rows (k * 4)) → lost + here ≡ lostIn rows (k + 1)
+lost-more : (rows : List ℕ) (k lost here : ℕ) → lost ≡ lostIn rows k → here ≡ size (fourBytesAt rows (k * 4)) → lost + here ≡ lostIn rows (k + 1)
 unfolding lostIn
 lost-more rows k lost here a b =
     let e : k + 1 ≡ suc k = omega arith in

@@ -8,14 +8,14 @@ use borrow.Author.Needs.{needs}
 use Rattle.rules.specs.declared.Head.{Head}
 use Rattle.rules.specs.declared.Ticked.{Ticked}
 use Rattle.rules.specs.Tick.{tickOf}
-use Rattle.rules.specs.Record.{wordAt}
+use Rattle.rules.specs.Record.{fourBytesAt}
 use Rattle.run.specs.declared.heads.Survey.{Survey}
 use Rattle.run.specs.Survey.{receivedFrom, tickedBy}
 use Rattle.run.proofs.heads.ticked.Statement.{statement}
 use Rattle.run.proofs.heads.ticked.Tie as tie
 
 ticked-is : (before : Survey) (n : ℕ) (rows coins : List ℕ) (i : ℕ) (h : Head) (answer : Ticked) (list : List ℕ) (row coin : ℕ)
-    → answer ≡ tickOf h list coin → list ≡ receivedFrom (before .ballots) row n → row ≡ wordAt rows (i * 4) → coin ≡ getD coins i 0
+    → answer ≡ tickOf h list coin → list ≡ receivedFrom (before .ballots) row n → row ≡ fourBytesAt rows (i * 4) → coin ≡ getD coins i 0
     → answer .head ≡ tickedBy before n rows coins i h
 unfolding tickedBy
 ticked-is before n rows coins i h answer list row coin a b c d = rw (a, b, c, d) refl

@@ -1,0 +1,53 @@
+use Prim.Native.Nat.{_-_, _≤_}
+use mathlib.Core.Path.{sym, ap, _∙_}
+use Rattle.rules.proofs.Below.{NoneBefore, none-more, search-starts, search-finds, search-ends}
+use Rattle.rules.specs.Ballot.{ballotAt}
+use Rattle.rules.specs.Tick.{ownOtherwise}
+use native.Mathlib.Omega.{arith}
+use Rattle.engine.proofs.list.first_own_otherwise.Statement.{statement}
+use Rattle.engine.proofs.list.first_own_otherwise.Tie as tie
+
+abbrev Inv-loop : tie.InvT-loop
+Inv-loop head ballots count i₀ i = (i ≤ count) × NoneBefore i (λ j. ownOtherwise head (ballotAt ballots j))
+
+abbrev μ-loop : tie.MeasureT-loop
+μ-loop head ballots count i₀ i = count - i
+
+loop-holds : tie.Need-loop-holds Inv-loop μ-loop
+loop-holds c = (omega arith, search-starts _)
+
+ballot-at-requires : tie.Need-ballot-at-requires Inv-loop μ-loop
+ballot-at-requires c κs = omega arith
+
+own-otherwise-requires : tie.Need-own-otherwise-requires Inv-loop μ-loop
+own-otherwise-requires c κs = tt
+
+returns : tie.Need-returns Inv-loop μ-loop
+returns c = search-finds _ _ _ (c .before .before .before .before .loop .inv .1) (sym (c .before .own-otherwise .ensures ∙ ap (ownOtherwise (c .before .before .before .before .before .before .args .head)) (c .before .before .ballot-at .ensures)) ∙ c .if1 .taken) (c .before .before .before .loop-test .taken)
+
+add-i : tie.Need-add-i Inv-loop μ-loop
+add-i c = omega arith
+
+loop-less : tie.Need-loop-less Inv-loop μ-loop
+loop-less c = omega arith
+
+loop-again : tie.Need-loop-again Inv-loop μ-loop
+loop-again c = (omega arith, none-more (c .before .before .before .before .loop .inv .1) (sym (c .before .own-otherwise .ensures ∙ ap (ownOtherwise (c .before .before .before .before .before .before .args .head)) (c .before .before .ballot-at .ensures)) ∙ c .if1 .left))
+
+returns-2 : tie.Need-returns-2 Inv-loop μ-loop
+returns-2 c = search-ends _ _ _ (c .before .loop .inv .1) (c .before .loop .inv .0) (c .loop-test .left)
+
+pub first-own-otherwise-spec : {M : Type 1} → statement M
+first-own-otherwise-spec =
+    tie.close
+    (tie.spec
+    Inv-loop
+    μ-loop
+    loop-holds
+    ballot-at-requires
+    own-otherwise-requires
+    returns
+    add-i
+    loop-less
+    loop-again
+    returns-2)
