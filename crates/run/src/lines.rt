@@ -2,11 +2,11 @@
 ghost use mathlib.Core.Path.{_≡_};
 ghost use Prim.Native.Nat.{_≤_};
 ghost use lib.ListN.{length};
-ghost use Rattle.file.specs.Report.{decimal, valueWord, statusWord, decisionWord, firstLine, headLine, headLines, lastLine, refusalLine, reportOf, textOf};
+ghost use Rattle.file.specs.Report.{valueWord, statusWord, decisionWord, firstLine, headLine, headLines, lastLine, refusalLine, reportOf, textOf};
 ghost use Rattle.run.specs.Writing.{Held, withWord, withAll};
 use crate::table::run_file;
 use crate::text::empty;
-use crate::text::with_number;
+use crate::text::with_figure;
 use crate::text::with_word;
 use file::Outcome;
 use file::Text;
@@ -37,11 +37,9 @@ fn refusal_line(text: Text, outcome: Outcome) -> Text
     ensures { λ r. ⌜ r ≡ withAll text (refusalLine outcome) ⌝ }
     ensures { λ r. ⌜ Held r ⌝ }
 {
-    let a = with_word(text, b"refused ");
-    let b = with_number(a, outcome.number as usize);
-    let c = with_word(b, b" at ");
-    let d = with_number(c, outcome.place);
-    with_word(d, b"\n")
+    let a = with_figure(text, b"refused ", outcome.number as usize);
+    let b = with_figure(a, b" at ", outcome.place);
+    with_word(b, b"\n")
 }
 
 fn first_line(text: Text, outcome: Outcome) -> Text
@@ -49,13 +47,10 @@ fn first_line(text: Text, outcome: Outcome) -> Text
     ensures { λ r. ⌜ r ≡ withAll text (firstLine outcome) ⌝ }
     ensures { λ r. ⌜ Held r ⌝ }
 {
-    let a = with_word(text, b"heads ");
-    let b = with_number(a, outcome.n);
-    let c = with_word(b, b" need ");
-    let d = with_number(c, outcome.needed);
-    let e = with_word(d, b" bound ");
-    let f = with_number(e, outcome.bound);
-    with_word(f, b"\n")
+    let a = with_figure(text, b"heads ", outcome.n);
+    let b = with_figure(a, b" need ", outcome.needed);
+    let c = with_figure(b, b" bound ", outcome.bound);
+    with_word(c, b"\n")
 }
 
 fn last_line(text: Text, outcome: Outcome) -> Text
@@ -63,13 +58,10 @@ fn last_line(text: Text, outcome: Outcome) -> Text
     ensures { λ r. ⌜ r ≡ withAll text (lastLine outcome) ⌝ }
     ensures { λ r. ⌜ Held r ⌝ }
 {
-    let a = with_word(text, b"rounds ");
-    let b = with_number(a, outcome.rounds);
-    let c = with_word(b, b" good ");
-    let d = with_number(c, outcome.good);
-    let e = with_word(d, b" decided ");
-    let f = with_number(e, outcome.decided);
-    with_word(f, b"\n")
+    let a = with_figure(text, b"rounds ", outcome.rounds);
+    let b = with_figure(a, b" good ", outcome.good);
+    let c = with_figure(b, b" decided ", outcome.decided);
+    with_word(c, b"\n")
 }
 
 // One line for each of the first n heads.
@@ -96,8 +88,8 @@ fn head_line(text: Text, s: usize, head: Head) -> Text
     let value = head.value;
     let status = head.status;
     let decision = head.decision;
-    let a = with_number(with_word(text, b"head "), s);
-    let b = with_number(with_word(a, b" phase "), head.phase as usize);
+    let a = with_figure(text, b"head ", s);
+    let b = with_figure(a, b" phase ", head.phase as usize);
     let c = with_value(with_word(b, b" value "), value);
     let d = with_status(with_word(c, b" status "), status);
     let e = with_decision(with_word(d, b" decision "), decision);

@@ -16,8 +16,17 @@ pub(crate) fn empty() -> Text
     }
 }
 
+// A word, and a number after it.
+pub(crate) fn with_figure(text: Text, word: &[u8], number: usize) -> Text
+    requires { ⌜ Held text ⌝ }
+    ensures { λ r. ⌜ r ≡ withWord (withWord text (now (word .entry))) (decimal number) ⌝ }
+    ensures { λ r. ⌜ Held r ⌝ }
+{
+    with_number(with_word(text, word), number)
+}
+
 // The number's decimal digits, and no fewer than one.
-pub(crate) fn with_number(text: Text, number: usize) -> Text
+fn with_number(text: Text, number: usize) -> Text
     requires { ⌜ Held text ⌝ }
     ensures { λ r. ⌜ r ≡ withWord text (decimal number) ⌝ }
     ensures { λ r. ⌜ Held r ⌝ }

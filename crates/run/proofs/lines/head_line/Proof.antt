@@ -4,14 +4,29 @@ use Rattle.run.specs.Writing.{withAll}
 use Rattle.run.proofs.lines.head_line.Statement.{statement}
 use Rattle.run.proofs.lines.head_line.Tie as tie
 
+slice-aggregate-with-figure : tie.Need-slice-aggregate-with-figure
+slice-aggregate-with-figure c = search needs
+
+with-figure-requires : tie.Need-with-figure-requires
+with-figure-requires c κs = search needs
+
+slice-aggregate-with-figure-2 : tie.Need-slice-aggregate-with-figure-2
+slice-aggregate-with-figure-2 c = search needs
+
+cast-with-figure : tie.Need-cast-with-figure
+cast-with-figure c = search needs
+
+with-figure-requires-2 : tie.Need-with-figure-requires-2
+with-figure-requires-2 c κs = search needs
+
 slice-aggregate-with-word : tie.Need-slice-aggregate-with-word
 slice-aggregate-with-word c = search needs
 
 with-word-requires : tie.Need-with-word-requires
 with-word-requires c κs = search needs
 
-with-number-requires : tie.Need-with-number-requires
-with-number-requires c κs = search needs
+with-value-requires : tie.Need-with-value-requires
+with-value-requires c κs = search needs
 
 slice-aggregate-with-word-2 : tie.Need-slice-aggregate-with-word-2
 slice-aggregate-with-word-2 c = search needs
@@ -19,11 +34,8 @@ slice-aggregate-with-word-2 c = search needs
 with-word-requires-2 : tie.Need-with-word-requires-2
 with-word-requires-2 c κs = search needs
 
-cast-with-number : tie.Need-cast-with-number
-cast-with-number c = search needs
-
-with-number-requires-2 : tie.Need-with-number-requires-2
-with-number-requires-2 c κs = search needs
+with-status-requires : tie.Need-with-status-requires
+with-status-requires c κs = search needs
 
 slice-aggregate-with-word-3 : tie.Need-slice-aggregate-with-word-3
 slice-aggregate-with-word-3 c = search needs
@@ -31,8 +43,8 @@ slice-aggregate-with-word-3 c = search needs
 with-word-requires-3 : tie.Need-with-word-requires-3
 with-word-requires-3 c κs = search needs
 
-with-value-requires : tie.Need-with-value-requires
-with-value-requires c κs = search needs
+with-decision-requires : tie.Need-with-decision-requires
+with-decision-requires c κs = search needs
 
 slice-aggregate-with-word-4 : tie.Need-slice-aggregate-with-word-4
 slice-aggregate-with-word-4 c = search needs
@@ -40,48 +52,28 @@ slice-aggregate-with-word-4 c = search needs
 with-word-requires-4 : tie.Need-with-word-requires-4
 with-word-requires-4 c κs = search needs
 
-with-status-requires : tie.Need-with-status-requires
-with-status-requires c κs = search needs
-
-slice-aggregate-with-word-5 : tie.Need-slice-aggregate-with-word-5
-slice-aggregate-with-word-5 c = search needs
-
-with-word-requires-5 : tie.Need-with-word-requires-5
-with-word-requires-5 c κs = search needs
-
-with-decision-requires : tie.Need-with-decision-requires
-with-decision-requires c κs = search needs
-
-slice-aggregate-with-word-6 : tie.Need-slice-aggregate-with-word-6
-slice-aggregate-with-word-6 c = search needs
-
-with-word-requires-6 : tie.Need-with-word-requires-6
-with-word-requires-6 c κs = search needs
-
 returns : tie.Need-returns
 unfolding headLine withAll
-returns c = (simp (c .with-word6 .ensures .0, c .before .before .with-decision .ensures .0, c .before .before .before .with-word5 .ensures .0, c .before .before .before .before .before .with-status .ensures .0, c .before .before .before .before .before .before .with-word4 .ensures .0, c .before .before .before .before .before .before .before .before .with-value .ensures .0, c .before .before .before .before .before .before .before .before .before .with-word3 .ensures .0, c .before .before .before .before .before .before .before .before .before .before .before .with-number2 .ensures .0, c .before .before .before .before .before .before .before .before .before .before .before .before .before .with-word2 .ensures .0, c .before .before .before .before .before .before .before .before .before .before .before .before .before .before .before .with-number .ensures .0, c .before .before .before .before .before .before .before .before .before .before .before .before .before .before .before .before .with-word .ensures .0), c .with-word6 .ensures .1)
+returns c = (simp (c .with-word4 .ensures .0, c .before .before .with-decision .ensures .0, c .before .before .before .with-word3 .ensures .0, c .before .before .before .before .before .with-status .ensures .0, c .before .before .before .before .before .before .with-word2 .ensures .0, c .before .before .before .before .before .before .before .before .with-value .ensures .0, c .before .before .before .before .before .before .before .before .before .with-word .ensures .0, c .before .before .before .before .before .before .before .before .before .before .before .with-figure2 .ensures .0, c .before .before .before .before .before .before .before .before .before .before .before .before .before .before .with-figure .ensures .0), c .with-word4 .ensures .1)
 
 pub head-line-spec : {M : Type 1} → statement M
 head-line-spec =
     tie.close
     (tie.spec
+    slice-aggregate-with-figure
+    with-figure-requires
+    slice-aggregate-with-figure-2
+    cast-with-figure
+    with-figure-requires-2
     slice-aggregate-with-word
     with-word-requires
-    with-number-requires
+    with-value-requires
     slice-aggregate-with-word-2
     with-word-requires-2
-    cast-with-number
-    with-number-requires-2
+    with-status-requires
     slice-aggregate-with-word-3
     with-word-requires-3
-    with-value-requires
+    with-decision-requires
     slice-aggregate-with-word-4
     with-word-requires-4
-    with-status-requires
-    slice-aggregate-with-word-5
-    with-word-requires-5
-    with-decision-requires
-    slice-aggregate-with-word-6
-    with-word-requires-6
     returns)

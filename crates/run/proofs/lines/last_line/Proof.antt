@@ -4,56 +4,44 @@ use Rattle.run.specs.Writing.{withAll}
 use Rattle.run.proofs.lines.last_line.Statement.{statement}
 use Rattle.run.proofs.lines.last_line.Tie as tie
 
+slice-aggregate-with-figure : tie.Need-slice-aggregate-with-figure
+slice-aggregate-with-figure c = search needs
+
+with-figure-requires : tie.Need-with-figure-requires
+with-figure-requires c κs = search needs
+
+slice-aggregate-with-figure-2 : tie.Need-slice-aggregate-with-figure-2
+slice-aggregate-with-figure-2 c = search needs
+
+with-figure-requires-2 : tie.Need-with-figure-requires-2
+with-figure-requires-2 c κs = search needs
+
+slice-aggregate-with-figure-3 : tie.Need-slice-aggregate-with-figure-3
+slice-aggregate-with-figure-3 c = search needs
+
+with-figure-requires-3 : tie.Need-with-figure-requires-3
+with-figure-requires-3 c κs = search needs
+
 slice-aggregate-with-word : tie.Need-slice-aggregate-with-word
 slice-aggregate-with-word c = search needs
 
 with-word-requires : tie.Need-with-word-requires
 with-word-requires c κs = search needs
 
-with-number-requires : tie.Need-with-number-requires
-with-number-requires c κs = search needs
-
-slice-aggregate-with-word-2 : tie.Need-slice-aggregate-with-word-2
-slice-aggregate-with-word-2 c = search needs
-
-with-word-requires-2 : tie.Need-with-word-requires-2
-with-word-requires-2 c κs = search needs
-
-with-number-requires-2 : tie.Need-with-number-requires-2
-with-number-requires-2 c κs = search needs
-
-slice-aggregate-with-word-3 : tie.Need-slice-aggregate-with-word-3
-slice-aggregate-with-word-3 c = search needs
-
-with-word-requires-3 : tie.Need-with-word-requires-3
-with-word-requires-3 c κs = search needs
-
-with-number-requires-3 : tie.Need-with-number-requires-3
-with-number-requires-3 c κs = search needs
-
-slice-aggregate-with-word-4 : tie.Need-slice-aggregate-with-word-4
-slice-aggregate-with-word-4 c = search needs
-
-with-word-requires-4 : tie.Need-with-word-requires-4
-with-word-requires-4 c κs = search needs
-
 returns : tie.Need-returns
 unfolding lastLine withAll
-returns c = (simp (c .with-word4 .ensures .0, c .before .before .with-number3 .ensures .0, c .before .before .before .with-word3 .ensures .0, c .before .before .before .before .before .with-number2 .ensures .0, c .before .before .before .before .before .before .with-word2 .ensures .0, c .before .before .before .before .before .before .before .before .with-number .ensures .0, c .before .before .before .before .before .before .before .before .before .with-word .ensures .0), c .with-word4 .ensures .1)
+returns c = (simp (c .with-word .ensures .0, c .before .before .with-figure3 .ensures .0, c .before .before .before .before .with-figure2 .ensures .0, c .before .before .before .before .before .before .with-figure .ensures .0), c .with-word .ensures .1)
 
 pub last-line-spec : {M : Type 1} → statement M
 last-line-spec =
     tie.close
     (tie.spec
+    slice-aggregate-with-figure
+    with-figure-requires
+    slice-aggregate-with-figure-2
+    with-figure-requires-2
+    slice-aggregate-with-figure-3
+    with-figure-requires-3
     slice-aggregate-with-word
     with-word-requires
-    with-number-requires
-    slice-aggregate-with-word-2
-    with-word-requires-2
-    with-number-requires-2
-    slice-aggregate-with-word-3
-    with-word-requires-3
-    with-number-requires-3
-    slice-aggregate-with-word-4
-    with-word-requires-4
     returns)
