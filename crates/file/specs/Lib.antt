@@ -6,3 +6,4 @@ pub mod Benched
 pub mod Report
 pub mod Vote
 pub mod Rules
+pub mod Refusal
