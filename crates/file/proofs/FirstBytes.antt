@@ -1,8 +1,8 @@
 -- The first 41,002 bytes of a file decide its report: the largest file has 41,001, so what follows is read by nobody.
-use Prim.Native.Nat.{ℕ, _+_, _*_, _/_, _≤_, _<_}
+use Prim.Native.Nat.{ℕ, _+_, _*_, _≤_, _<_}
 use mathlib.Core.Path.{_≡_, refl, sym, ap, ap₂, _∙_}
 use mathlib.Core.List.{List}
-use mathlib.Core.Bool.{Bool, true, false, cond, not}
+use mathlib.Core.Bool.{Bool, true, false, not}
 use native.Mathlib.Decide.{decLt}
 use native.Mathlib.Nat.{mul-le-mul}
 use native.Mathlib.Omega.{arith}
@@ -18,13 +18,13 @@ use Rattle.file.specs.declared.Section.{Section}
 use Rattle.file.specs.declared.Section.the-variants.{Body, Refused}
 use Rattle.file.specs.declared.Plan.{Plan}
 use Rattle.file.specs.declared.Outcome.{Outcome}
-use Rattle.file.specs.Section.{countAt, bodyOf, counted, firstBroken, unlessBroken, checked, notBit, notNeed, notRow, proposalsOf, neededOf, lossesOf, coinsOf}
+use Rattle.file.specs.Section.{countAt, bodyOf, counted, checked, notBit, notNeed, notRow, proposalsOf, neededOf, lossesOf, coinsOf}
 use Rattle.file.specs.Plan.{refusedPlan, taken, closed, afterLosses, afterNeeded, afterProposals, planOf}
 use Rattle.file.specs.Table.{tableAfter}
 use Rattle.file.specs.Figures.{boundOf, outcomeIn, outcomeOf}
 use Rattle.file.specs.Benched.{emptyTable}
 use Rattle.file.specs.Report.{joined, linesOf, reportOf}
-use Rattle.file.proofs.Sections.{counted-body, proposals-body, needed-body, losses-body, coins-body}
+use Rattle.file.proofs.Sections.{ordered, in-order, proposals-body, needed-body, losses-body, coins-body}
 use Rattle.file.proofs.Plans.{accepted-file, refused-file}
 use Rattle.file.proofs.Placing.{after-nothing}
 
@@ -53,13 +53,9 @@ module _ (file : List ℕ) (m : ℕ) (enough : 41002 ≤ m) (longer : m < length
   count-same : (at : ℕ) → at + 2 ≤ m → countAt front at ≡ countAt file at
   count-same at h = ap₂ (λ (a b : ℕ). a * 256 + b) (byte-same at (omega arith)) (byte-same (at + 1) (omega arith))
 
-  body-same : (section : Section) → ((start size : ℕ) → section ≡ Body start size → start + size ≤ m) → bodyOf front section ≡ bodyOf file section
-  body-same (Refused number place) f = refl
-  body-same (Body start size) f = ext-getD 0 (take size (drop start front)) (take size (drop start file)) long each
+  body-same : (start size : ℕ) → start + size ≤ m → bodyOf front (Body start size) ≡ bodyOf file (Body start size)
+  body-same start size inside = ext-getD 0 (take size (drop start front)) (take size (drop start file)) long each
     where
-      inside : start + size ≤ m
-      inside = f start size refl
-
       long : length (take size (drop start front)) ≡ length (take size (drop start file))
       long = omega (arith, inside, longer, front-length, length-take size (drop start front), length-take size (drop start file), length-drop start front, length-drop start file)
 
@@ -68,26 +64,22 @@ module _ (file : List ℕ) (m : ℕ) (enough : 41002 ≤ m) (longer : m < length
           let low : i < size = omega (arith, h, length-take size (drop start front)) in
           getD-take size (drop start front) i 0 low ∙ getD-drop start front i 0 ∙ byte-same (start + i) (omega (arith, low, inside)) ∙ sym (getD-drop start file i 0) ∙ sym (getD-take size (drop start file) i 0 low)
 
-  -- a section whose body ends in the first bytes is counted alike
-  counted-same : (at : ℕ) (breaks : Bool) (size : ℕ) → at + 2 ≤ m → (breaks ≡ false → at + 2 + size ≤ m) → counted front at breaks size ≡ counted file at breaks size
-  unfolding counted
-  counted-same at breaks size h f = rw (le-ltb (length front) (at + 2) (omega (arith, front-length)), le-ltb (length file) (at + 2) (omega arith)) (go breaks f)
-    where
-      go : (b : Bool) → (b ≡ false → at + 2 + size ≤ m)
-          → cond b (Refused 13 at) (cond (ltb (length front) (at + 2 + size)) (Refused 12 (length front)) (Body (at + 2) size)) ≡ cond b (Refused 13 at) (cond (ltb (length file) (at + 2 + size)) (Refused 12 (length file)) (Body (at + 2) size))
-      go true f = refl
-      go false f = let e = f refl in rw (le-ltb (length front) (at + 2 + size) (omega (arith, front-length)), le-ltb (length file) (at + 2 + size) (omega arith)) refl
-
-  checked-same : (width : ℕ) (breaks : List ℕ → ℕ → Bool) (section : Section) → ((start size : ℕ) → section ≡ Body start size → start + size ≤ m) → checked front width breaks section ≡ checked file width breaks section
-  unfolding checked
-  checked-same width breaks section f = ap (λ (body : List ℕ). unlessBroken section (firstBroken body width breaks) (length body / width) width) (body-same section f)
-
-  -- so a section that ends in the first bytes is read alike
+  -- a section that ends in the first bytes is read alike
   section-same : (at : ℕ) (breaks : Bool) (size width : ℕ) (test : List ℕ → ℕ → Bool) → at + 2 ≤ m → (breaks ≡ false → at + 2 + size ≤ m)
       → checked front width test (counted front at breaks size) ≡ checked file width test (counted file at breaks size)
+  unfolding checked
   section-same at breaks size width test h f =
-      ap (checked front width test) (counted-same at breaks size h f)
-      ∙ checked-same width test (counted file at breaks size) (λ start long e. let c = counted-body file at breaks size start long e in omega (arith, c .starts, c .sized, f (c .ruled)))
+      in-order front at breaks size width test
+      ∙ rw (le-ltb (length front) (at + 2) (omega (arith, front-length)), le-ltb (length file) (at + 2) (omega arith)) (go breaks f)
+      ∙ sym (in-order file at breaks size width test)
+    where
+      go : (b : Bool) → (b ≡ false → at + 2 + size ≤ m)
+          → ordered front at false b (ltb (length front) (at + 2 + size)) (checked front width test (Body (at + 2) size))
+          ≡ ordered file at false b (ltb (length file) (at + 2 + size)) (checked file width test (Body (at + 2) size))
+      go true f = refl
+      go false f =
+          let e = f refl in
+          rw (le-ltb (length front) (at + 2 + size) (omega (arith, front-length)), le-ltb (length file) (at + 2 + size) (omega arith), body-same (at + 2) size e) refl
 
   taken-same : (section : Section) (f g : ℕ → ℕ → Plan) → ((start size : ℕ) → section ≡ Body start size → f start size ≡ g start size) → taken section f ≡ taken section g
   taken-same (Refused number place) f g same = refl

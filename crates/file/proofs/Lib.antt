@@ -1,6 +1,5 @@
 pub mod Sections
 pub mod Plans
-pub mod Exactly
 pub mod Placing
 pub mod BenchIsRun
 pub mod Decimals

@@ -1,23 +1,26 @@
 -- What a plan says: either the file is refused, by a number from 12 to 16, and there are no heads and no rounds; or it is
--- accepted, and every byte of it has its place and keeps its rule.
-use Prim.Native.Nat.{ℕ, _+_, _*_, _≤_}
-use mathlib.Core.Path.{_≡_, refl, sym, ap, _∙_}
-use mathlib.Core.List.{List}
+-- accepted, and every byte of it has its place and keeps its rule. In both cases number and place are those of
+-- specs/Refusal.
+use Prim.Native.Nat.{ℕ, _+_, _*_, _≤_, _<_}
+use mathlib.Core.Path.{_≡_, refl, sym, ap, ap₂, subst, _∙_}
+use mathlib.Core.List.{List, _∷_, _++_}
 use mathlib.Core.Bool.{Bool, true, false, cond}
-use mathlib.Core.Logic.{_⊎_, inl, inr}
+use mathlib.Core.Logic.{_⊎_, inl, inr, _↔_}
 use native.Mathlib.Omega.{arith}
 use lib.ListN.{length, getD}
-use lib.Dec.{ltb}
 use borrow.Author.Tests.{ltb-false}
+use Rattle.rules.specs.Heard.{member}
+use Rattle.rules.specs.Record.{fourBytesAt}
+use Rattle.rules.specs.Given.{Heads}
+use Rattle.rules.proofs.Truth.{never}
 use Rattle.file.specs.declared.Section.{Section}
-use Rattle.file.specs.declared.Section.the-variants.{Body, Refused}
+use Rattle.file.specs.declared.Section.the-variants.{Refused}
 use Rattle.file.specs.declared.Plan.{Plan}
 use Rattle.file.specs.Section.{countAt, counted, unlessBroken, checked, proposalsOf, neededOf, lossesOf, coinsOf}
 use Rattle.file.specs.Rules.{KeepsEveryRule}
+use Rattle.file.specs.Refusal.{Line, _exactly-when_, Given, sectionRefusals, Bit, Need, LossRow, fileRefusals}
 use Rattle.file.specs.Plan.{refusedPlan, taken, closed, afterLosses, afterNeeded, afterProposals, planOf}
-use Rattle.file.proofs.Sections.{proposals-body, needed-body, losses-body, coins-body}
-
--- ---- refusals
+use Rattle.file.proofs.Sections.{Tells, tells-below, in-order, Meant, Kept, kept, tells-rule, tells-first, proposals-meant, needed-meant, losses-meant, coins-meant}
 
 pub record RefusedFile (plan : Plan) : Type 0 where
   pub number : ℕ
@@ -26,95 +29,167 @@ pub record RefusedFile (plan : Plan) : Type 0 where
   pub high : number ≤ 16
   pub is : plan ≡ refusedPlan number place
 
--- a section is refused by 12, 13 or 14
-abbrev Sectioned : Section → Type 0
-Sectioned (Body start length) = Unit {0}
-Sectioned (Refused number place) = (12 ≤ number) × (number ≤ 14)
+-- a rule kept at a place, the place written otherwise
+moved : {a b : ℕ} (Keeps : ℕ → Type 0) → Keeps a → a ≡ b → Keeps b
+moved Keeps x e = subst Keeps e x
 
-counted-refused : (file : List ℕ) (at : ℕ) (breaks : Bool) (size : ℕ) → Sectioned (counted file at breaks size)
-unfolding counted
-counted-refused file at breaks size = go (ltb (length file) (at + 2)) breaks (ltb (length file) (at + 2 + size))
-  where
-    go : (a b c : Bool) → Sectioned (cond a (Refused 12 (length file)) (cond b (Refused 13 at) (cond c (Refused 12 (length file)) (Body (at + 2) size))))
-    go true b c = (omega arith, omega arith)
-    go false true c = (omega arith, omega arith)
-    go false false true = (omega arith, omega arith)
-    go false false false = tt
-
-checked-refused : (file : List ℕ) (width : ℕ) (breaks : List ℕ → ℕ → Bool) (section : Section) → Sectioned section → Sectioned (checked file width breaks section)
-unfolding checked unlessBroken
-checked-refused file width breaks section s = go section _ _ s
-  where
-    go : (section : Section) (broken pieces : ℕ) → Sectioned section → Sectioned (unlessBroken section broken pieces width)
-    go (Refused number place) broken pieces s = s
-    go (Body start size) broken pieces s = one (ltb broken pieces)
-      where
-        one : (t : Bool) → Sectioned (cond t (Refused 14 (start + broken * width)) (Body start size))
-        one true = (omega arith, omega arith)
-        one false = tt
-
--- ---- acceptance
+-- a line has this number, one of 12 to 16
+abbrev Numbered : ℕ → ℕ → Type 0
+Numbered k number = (k ≡ number) × (12 ≤ k) × (k ≤ 16)
 
 module _ (file : List ℕ) (room : ℕ) where
-  abbrev Either : Plan → Type 0
-  Either plan = KeepsEveryRule file room plan ⊎ RefusedFile plan
+  -- a plan has the number and the place that the lines give, and keeps every rule or is refused
+  record Answers (plan : Plan) (lines : List Line) : Type 0 where
+    given : (number place : ℕ) → ((plan .number ≡ number) × (plan .place ≡ place)) ↔ Given number place lines
+    either : KeepsEveryRule file room plan ⊎ RefusedFile plan
 
-  taken-either : (section : Section) (next : ℕ → ℕ → Plan) → Sectioned section → ((start size : ℕ) → section ≡ Body start size → Either (next start size)) → Either (taken section next)
-  taken-either (Body start size) next s f = f start size refl
-  taken-either (Refused number place) next s f = inr (record { number = number; place = place; low = s .0; high = omega (arith, s .1); is = refl })
-
-  closed-either : (size end : ℕ) (plan : Plan) → (size ≤ end → plan .n ≤ room → KeepsEveryRule file room plan) → Either (closed size room end plan)
-  unfolding closed
-  closed-either size end plan f = go (ltb end size) (ltb room (plan .n)) refl refl
-    where
-      go : (a b : Bool) → ltb end size ≡ a → ltb room (plan .n) ≡ b → Either (cond a (refusedPlan 15 end) (cond b (refusedPlan 16 0) plan))
-      go true b x y = inr (record { number = 15; place = end; low = omega arith; high = omega arith; is = refl })
-      go false true x y = inr (record { number = 16; place = 0; low = omega arith; high = omega arith; is = refl })
-      go false false x y = inl (f (ltb-false end size x) (ltb-false room (plan .n) y))
-
-  pub planned : Either (planOf file room)
-  unfolding planOf afterProposals afterNeeded afterLosses proposalsOf neededOf lossesOf coinsOf
-  planned =
-      taken-either (proposalsOf file) _ (checked-refused file 1 _ _ (counted-refused file 0 _ _)) (λ s n p. let P = proposals-body file s n p in
-      taken-either (neededOf file (s + n) n) _ (checked-refused file 1 _ _ (counted-refused file (s + n) _ _)) (λ at one q. let Q = needed-body file (s + n) n at one q in
-      taken-either (lossesOf file (at + one) n) _ (checked-refused file 4 _ _ (counted-refused file (at + one) _ _)) (λ rows size l. let L = losses-body file (at + one) n rows size l in
-      taken-either (coinsOf file (rows + size) (countAt file (at + one) * n)) _ (checked-refused file 1 _ _ (counted-refused file (rows + size) _ _)) (λ bits count c. let C = coins-body file (rows + size) (countAt file (at + one) * n) bits count c in
-      closed-either (length file) (bits + count) _ (λ ends few.
+  -- one test and its line
+  line : {number place k : ℕ} {Applies : ℕ → Type 0} {plan : Plan} {later : List Line} (t : Bool) → Numbered k number → Tells t place Applies
+      → (t ≡ false → Answers plan later) → Answers (cond t (refusedPlan number place) plan) ((k exactly-when Applies) ∷ later)
+  line {number} {place} {k} {Applies} {plan} {later} true numbered tells next =
       record {
-        first = sym (P .counts);
-        heads = P .heads;
-        proposal = λ i h. rw (P .starts) at (P .bit i h);
-        second = moved (s + n) (2 + n) (omega (arith, P .starts)) ∙ Q .counts;
-        needed = ap (λ (k : ℕ). getD file k 0) (let e : 4 + n ≡ at = omega (arith, P .starts, Q .starts) in e);
-        most = Q .most;
-        some = Q .some;
-        third = moved (at + one) (5 + n) (omega (arith, P .starts, Q .starts, Q .single));
-        rounds = L .rounds;
-        losses = omega (arith, P .starts, Q .starts, Q .single, L .starts);
-        row = L .row;
-        fourth = moved (rows + size) (7 + n + countAt file (at + one) * n * 4) (omega (arith, P .starts, Q .starts, Q .single, L .starts, L .sized)) ∙ C .counts;
-        coins = omega (arith, P .starts, Q .starts, Q .single, L .starts, L .sized, C .starts);
-        coin = λ i h. C .bit i (omega (arith, h, C .sized));
-        whole = omega (arith, ends, C .inside, C .sized);
-        enough = few;
-        number = refl;
-        place = refl;
-      })))))
+        given = λ m p. (
+          λ e. inl (subst Applies (e .1) (tells .0 refl), sym (numbered .0 ∙ e .0)),
+          λ g. elim g [ inl x ↦ (sym (x .1 ∙ numbered .0), sym (tells .1 p (x .0) .1)) | inr x ↦ absurd (x .0 place (tells .0 refl)) ],
+        );
+        either = inr (record { number = number; place = place; low = omega (arith, numbered .0, numbered .1); high = omega (arith, numbered .0, numbered .2); is = refl });
+      }
+  line {number} {place} {k} {Applies} {plan} {later} false numbered tells next =
+      record {
+        given = λ m p. (
+          λ e. inr (λ q x. never (tells .1 q x .0), next refl .given m p .0 e),
+          λ g. elim g [ inl x ↦ never (tells .1 p (x .0) .0) | inr x ↦ next refl .given m p .1 (x .1) ],
+        );
+        either = next refl .either;
+      }
+
+  -- "Each section's answer is taken apart"
+  section-line : {number place k : ℕ} {Applies : ℕ → Type 0} {later : List Line} (next : ℕ → ℕ → Plan) (s : Section) (t : Bool) → Numbered k number → Tells t place Applies
+      → (t ≡ false → Answers (taken s next) later) → Answers (taken (cond t (Refused number place) s) next) ((k exactly-when Applies) ∷ later)
+  section-line next s true = line {plan = taken s next} true
+  section-line next s false = line false
+
+  -- a section and its four lines
+  section : {count : ℕ} {breaks : Bool} {Rule : Type 0} {size pieces width : ℕ} {test : List ℕ → ℕ → Bool} {Keeps : ℕ → Type 0}
+      → Meant file count breaks Rule size pieces width test Keeps
+      → (next : ℕ → ℕ → Plan) (later : List Line) → (Kept file count Rule size pieces width Keeps (count + 2) size → Answers (next (count + 2) size) later)
+      → Answers (taken (checked file width test (counted file count breaks size)) next) (sectionRefusals file count Rule pieces width Keeps ++ later)
+  unfolding checked unlessBroken
+  section {count} {breaks} {Rule} {size} {pieces} {width} {test} {Keeps} meant next later then =
+      subst (λ (s : Section). Answers (taken s next) (sectionRefusals file count Rule pieces width Keeps ++ later)) (sym (in-order file count breaks size width test))
+      (section-line next _ _ (omega arith, omega arith, omega arith) (tells-below (length file) (count + 2) (λ l. omega (arith, l)) (λ l. omega (arith, l)) (omega arith)) (λ a.
+      section-line next _ _ (omega arith, omega arith, omega arith) (tells-rule meant (omega arith)) (λ b.
+      section-line next _ _ (omega arith, omega arith, omega arith) (tells-below (length file) (count + 2 + size) (λ l. omega (arith, l, meant .sized)) (λ l. omega (arith, l, meant .sized)) (omega arith)) (λ c.
+      section-line next _ _ (omega arith, omega arith, omega arith) (tells-first meant c) (λ d.
+      then (kept meant (count + 2) size refl refl b c d))))))
+
+  -- n, the rounds, and where the counts stand, as in specs/Refusal
+  abbrev n : ℕ
+  n = countAt file 0
+
+  abbrev second : ℕ
+  second = 2 + n
+
+  abbrev third : ℕ
+  third = second + 2 + 1
+
+  abbrev rounds : ℕ
+  rounds = countAt file third
+
+  abbrev fourth : ℕ
+  fourth = third + 2 + rounds * n * 4
+
+  -- the four sections, then 15 and 16
+  answered : Answers (planOf file room) (fileRefusals file room)
+  unfolding planOf afterProposals afterNeeded afterLosses closed proposalsOf neededOf lossesOf coinsOf
+  answered =
+      section (proposals-meant file) _ _ (λ P.
+      section (needed-meant file second n) _ _ (λ N.
+      section (losses-meant file third n) _ _ (λ L.
+      section (coins-meant file fourth (rounds * n)) _ _ (λ C.
+      line {number = 15} {place = fourth + 2 + rounds * n} _ (omega arith, omega arith, omega arith) (tells-below (fourth + 2 + rounds * n) (length file) (λ l. omega (arith, l)) (λ l. omega (arith, l)) (omega arith)) (λ a.
+      line {number = 16} {place = 0} {plan = made} _ (omega arith, omega arith, omega arith) (tells-below room n (λ l. omega (arith, l)) (λ l. omega (arith, l)) (omega arith)) (λ b.
+      record {
+        given = λ number place. (λ e. (sym (e .0), sym (e .1)), λ e. (sym (e .0), sym (e .1)));
+        either =
+            inl
+            (record {
+              first = refl;
+              heads = P .rule;
+              proposal = λ i h. moved (Bit file) (P .each i h) (omega arith);
+              second = N .rule;
+              needed = ap (λ (p : ℕ). getD file p 0) (omega arith);
+              most = moved (λ p. n < getD file p 0 * 2) (N .each 0 (omega arith) .0) (omega arith);
+              some = moved (λ p. getD file p 0 ≤ n) (N .each 0 (omega arith) .1) (omega arith);
+              third = ap (countAt file) (omega arith);
+              rounds = L .rule;
+              losses = omega arith;
+              row = L .each;
+              fourth = moved (λ p. countAt file p ≡ rounds * n) (C .rule) (omega arith);
+              coins = omega arith;
+              coin = λ i h. moved (Bit file) (C .each i h) (omega arith);
+              whole = omega (arith, ltb-false (fourth + 2 + rounds * n) (length file) a, C .inside);
+              enough = ltb-false room n b;
+              number = refl;
+              place = refl;
+            });
+      }))))))
     where
-      -- a count read at the place that a section gives
-      moved : (a b : ℕ) → b ≡ a → countAt file b ≡ countAt file a
-      moved a b e = ap (countAt file) e
+      made : Plan
+      made = record { number = 0; place = 0; n = n; needed = getD file (second + 2) 0; rounds = rounds; losses = third + 2; coins = fourth + 2 }
+
+  -- the number and the place are those of the first line that applies
+  pub plan-given : (number place : ℕ) → ((planOf file room .number ≡ number) × (planOf file room .place ≡ place)) ↔ Given number place (fileRefusals file room)
+  plan-given = answered .given
+
+  pub planned : KeepsEveryRule file room (planOf file room) ⊎ RefusedFile (planOf file room)
+  planned = answered .either
 
   pub accepted-file : planOf file room .number ≡ 0 → KeepsEveryRule file room (planOf file room)
-  accepted-file zero = go planned
-    where
-      go : Either (planOf file room) → KeepsEveryRule file room (planOf file room)
-      go (inl accepted) = accepted
-      go (inr refused) = absurd (omega (arith, zero, ap (λ (p : Plan). p .number) (refused .is), refused .low))
+  accepted-file zero = elim planned [ inl accepted ↦ accepted | inr refused ↦ absurd (omega (arith, zero, ap (λ (p : Plan). p .number) (refused .is), refused .low)) ]
 
   pub refused-file : (planOf file room .number ≡ 0 → ⊥) → RefusedFile (planOf file room)
-  refused-file number = go planned
+  refused-file number = elim planned [ inl accepted ↦ absurd (number (accepted .number)) | inr refused ↦ refused ]
+
+  -- ---- specs/Refusal and specs/Rules agree
+
+  record NoneApplies (lines : List Line) : Type 0 where
+    none : Given 0 0 lines
+
+  -- no line of a section applies that is there and keeps its rules
+  kept-section : (count : ℕ) (Rule : Type 0) (pieces width : ℕ) (Keeps : ℕ → Type 0) (later : List Line)
+      → Rule → count + 2 + pieces * width ≤ length file → ((i : ℕ) → i < pieces → Keeps (count + 2 + i * width))
+      → NoneApplies later → NoneApplies (sectionRefusals file count Rule pieces width Keeps ++ later)
+  kept-section count Rule pieces width Keeps later rule inside each rest =
+      let long : length file < count + 2 + pieces * width → ⊥ = λ l. omega arith in
+      record { none = inr (λ p x. omega (arith, x .0, inside), inr (λ p x. x .0 rule, inr (λ p x. long (x .0), inr (λ p x. x .3 (moved Keeps (each (x .0) (x .1)) (sym (x .2))), rest .none)))) }
+
+  keeps-given : (plan : Plan) → KeepsEveryRule file room plan → NoneApplies (fileRefusals file room)
+  keeps-given plan keeps =
+      kept-section 0 _ n 1 (Bit file) _ (moved Heads (keeps .heads) (sym same)) (omega (arith, ends)) (λ i h. moved (Bit file) (keeps .proposal i (omega (arith, h, same))) (omega arith))
+      (kept-section second _ 1 1 (Need n file) _ (moved (λ p. countAt file p ≡ 1) (keeps .second) (omega (arith, same))) (omega (arith, ends)) need
+      (kept-section third (rounds ≤ 256) (rounds * n) 4 (LossRow n file) _ (omega (arith, keeps .rounds, rounds-same)) (omega (arith, ends))
+      (λ i h s m. let low = keeps .row i (omega (arith, h, rows)) s (moved (λ p. member s (fourBytesAt file p) ≡ true) m (omega (arith, same, keeps .losses))) in omega (arith, same, low))
+      (kept-section fourth _ (rounds * n) 1 (Bit file) _ (moved (λ p. countAt file p ≡ plan .rounds * plan .n) (keeps .fourth) (omega (arith, same, rows)) ∙ sym rows) (omega (arith, ends))
+      (λ i h. moved (Bit file) (keeps .coin i (omega (arith, h, rows))) (omega (arith, same, keeps .coins, rows)))
+      (record { none = inr (λ p x. omega (arith, x .0, ends), inr (λ p x. omega (arith, x .0, keeps .enough, same), (refl, refl))) }))))
     where
-      go : Either (planOf file room) → RefusedFile (planOf file room)
-      go (inl accepted) = absurd (number (accepted .number))
-      go (inr refused) = refused
+      same : n ≡ plan .n
+      same = keeps .first
+
+      rounds-same : rounds ≡ plan .rounds
+      rounds-same = moved (λ p. countAt file p ≡ plan .rounds) (keeps .third) (omega (arith, same))
+
+      rows : rounds * n ≡ plan .rounds * plan .n
+      rows = ap₂ (λ (a b : ℕ). a * b) rounds-same same
+
+      ends : length file ≡ fourth + 2 + rounds * n
+      ends = omega (arith, keeps .whole, keeps .coins, same, rows)
+
+      need : (i : ℕ) → i < 1 → Need n file (second + 2 + i * 1)
+      need i h =
+          let k : getD file (second + 2 + i * 1) 0 ≡ plan .needed = moved (λ p. getD file p 0 ≡ plan .needed) (keeps .needed) (omega (arith, same, h)) in
+          (omega (arith, k, keeps .most, same), omega (arith, k, keeps .some, same))
+
+  pub no-line-applies-exactly-when-every-rule-is-kept : Given 0 0 (fileRefusals file room) ↔ ((plan : Plan) × KeepsEveryRule file room plan)
+  no-line-applies-exactly-when-every-rule-is-kept = (λ none. (planOf file room, accepted-file (plan-given 0 0 .1 none .0)), λ rules. keeps-given (rules .0) (rules .1) .none)

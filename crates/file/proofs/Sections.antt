@@ -1,31 +1,32 @@
--- What an accepted section says: where its body stands, how long it is, and that its count and its bytes keep their rules.
+-- What a section reader answers: its tests in the order of the lines of specs/Refusal, what each of them means there, and what
+-- an accepted section says of its body.
 use Prim.Native.Nat.{ℕ, _+_, _*_, _/_, _≤_, _<_}
 use mathlib.Core.Path.{_≡_, refl, sym, ap, subst, _∙_}
 use mathlib.Core.List.{List}
 use mathlib.Core.Bool.{Bool, true, false, cond, _&&_, not}
 use native.Mathlib.Omega.{arith}
 use lib.ListN.{length, getD, drop, length-take, length-drop}
-use lib.Dec.{ltb, leb}
+use lib.Dec.{ltb, leb, eqb}
 use lib.Seq.{getD-take, getD-drop}
-use borrow.Author.Tests.{ltb-true, ltb-false, leb-true, eqb-true}
+use borrow.Author.Tests.{ltb-true, ltb-false, lt-ltb}
 use Rattle.rules.specs.Ballot.{notHeads}
-use Rattle.rules.specs.Heard.{member, within}
+use Rattle.rules.specs.Heard.{within}
 use Rattle.rules.specs.Record.{fourBytesAt}
 use Rattle.rules.specs.Given.{Heads}
-use Rattle.rules.proofs.Truth.{and-left, and-right}
-use Rattle.rules.proofs.Below.{not-some}
+use Rattle.rules.proofs.Truth.{Means, never, not-false, means-as, means-and, means-not, means-twice, means-lt, means-le, means-eq}
+use Rattle.rules.proofs.Below.{not-some, first-holds, first-before, first-at}
 use Rattle.rules.proofs.Sets.{means-within}
-use Rattle.rules.proofs.Meanings.{heads}
 use Rattle.file.specs.declared.Section.{Section}
 use Rattle.file.specs.declared.Section.the-variants.{Body, Refused}
 use Rattle.file.specs.Section.{countAt, bodyOf, counted, firstBroken, unlessBroken, checked, notBit, notNeed, notRow, proposalsOf, neededOf, lossesOf, coinsOf}
+use Rattle.file.specs.Refusal.{At, FirstThatBreaks, Bit, Need, LossRow}
 
 -- where a body starts, and how long it is; a refusal is told apart
-abbrev pub startOr : ℕ → Section → ℕ
+abbrev startOr : ℕ → Section → ℕ
 startOr other (Body start size) = start
 startOr other (Refused number place) = other
 
-abbrev pub sizeOr : ℕ → Section → ℕ
+abbrev sizeOr : ℕ → Section → ℕ
 sizeOr other (Body start size) = size
 sizeOr other (Refused number place) = other
 
@@ -33,195 +34,220 @@ abbrev isBody : Section → ℕ
 isBody (Body start size) = 1
 isBody (Refused number place) = 0
 
-pub never-body : {A : Type 0} {number place start size : ℕ} → Refused number place ≡ Body start size → A
+never-body : {A : Type 0} {number place start size : ℕ} → Refused number place ≡ Body start size → A
 never-body e = let z : _≡_ {A = ℕ} 0 1 = ap isBody e in absurd (omega arith)
 
--- what counting says
-pub record Counted (file : List ℕ) (at : ℕ) (breaks : Bool) (size start length′ : ℕ) : Type 0 where
-  pub starts : start ≡ at + 2
-  pub sized : length′ ≡ size
-  pub ruled : breaks ≡ false
-  pub inside : at + 2 + size ≤ length file
-
-pub counted-body : (file : List ℕ) (at : ℕ) (breaks : Bool) (size start long : ℕ) → counted file at breaks size ≡ Body start long → Counted file at breaks size start long
-unfolding counted
-counted-body file at breaks size start long = go (ltb (length file) (at + 2)) breaks (ltb (length file) (at + 2 + size)) refl refl
-  where
-    go : (a b c : Bool) → ltb (length file) (at + 2) ≡ a → ltb (length file) (at + 2 + size) ≡ c
-        → cond a (Refused 12 (length file)) (cond b (Refused 13 at) (cond c (Refused 12 (length file)) (Body (at + 2) size))) ≡ Body start long → Counted file at b size start long
-    go true b c x y e = never-body e
-    go false true c x y e = never-body e
-    go false false true x y e = never-body e
-    go false false false x y e =
-        record {
-          starts = sym (ap (startOr 0) e);
-          sized = sym (ap (sizeOr 0) e);
-          ruled = refl;
-          inside = ltb-false (length file) (at + 2 + size) y;
-        }
-
--- what looking at the bytes says
-pub checked-body : (file : List ℕ) (width : ℕ) (breaks : List ℕ → ℕ → Bool) (section : Section) (start long : ℕ) → checked file width breaks section ≡ Body start long
-    → (section ≡ Body start long) × (ltb (firstBroken (bodyOf file (Body start long)) width breaks) (length (bodyOf file (Body start long)) / width) ≡ false)
-unfolding checked unlessBroken
-checked-body file width breaks (Refused number place) start long e = never-body e
-checked-body file width breaks (Body s z) start long e = go (ltb broken pieces) refl e
-  where
-    broken : ℕ
-    broken = firstBroken (bodyOf file (Body s z)) width breaks
-
-    pieces : ℕ
-    pieces = length (bodyOf file (Body s z)) / width
-
-    Whole : Section → Type 0
-    Whole section = ltb (firstBroken (bodyOf file section) width breaks) (length (bodyOf file section) / width) ≡ false
-
-    go : (t : Bool) → ltb broken pieces ≡ t → cond t (Refused 14 (s + broken * width)) (Body s z) ≡ Body start long → (Body s z ≡ Body start long) × Whole (Body start long)
-    go true x e = never-body e
-    go false x e = (e, subst Whole e x)
-
--- ---- the four sections
-
-few : (n : ℕ) → notHeads n ≡ false → Heads n
-few n e = heads n e
-
--- a test that fails, of which the opposite was asked
-not-false : (t : Bool) → not t ≡ false → t ≡ true
-not-false true e = refl
-not-false false e = sym e
-
--- k is more than half, and at most n
-need-fits : (n k : ℕ) → not (ltb n (k * 2) && leb k n) ≡ false → (n < k * 2) × (k ≤ n)
-need-fits n k e =
-    let both = not-false (ltb n (k * 2) && leb k n) e in
-    (ltb-true n (k * 2) (and-left _ (leb k n) both), leb-true k n (and-right (ltb n (k * 2)) _ both))
-
-module _ (file : List ℕ) where
+module _ (file : List ℕ) (start size : ℕ) where
   -- a byte of a body is a byte of the file
-  pub body-at : (start size i : ℕ) → i < size → getD (bodyOf file (Body start size)) i 0 ≡ getD file (start + i) 0
-  body-at start size i h = getD-take size (drop start file) i 0 h ∙ getD-drop start file i 0
+  body-at : (i : ℕ) → i < size → getD (bodyOf file (Body start size)) i 0 ≡ getD file (start + i) 0
+  body-at i h = getD-take size (drop start file) i 0 h ∙ getD-drop start file i 0
 
   -- and so is a row
-  pub word-at : (start size i : ℕ) → i + 3 < size → fourBytesAt (bodyOf file (Body start size)) i ≡ fourBytesAt file (start + i)
-  word-at start size i h =
-      rw (body-at start size i (omega arith), body-at start size (i + 1) (omega arith), body-at start size (i + 2) (omega arith), body-at start size (i + 3) (omega arith))
+  word-at : (i : ℕ) → i + 3 < size → fourBytesAt (bodyOf file (Body start size)) i ≡ fourBytesAt file (start + i)
+  word-at i h =
+      rw (body-at i (omega arith), body-at (i + 1) (omega arith), body-at (i + 2) (omega arith), body-at (i + 3) (omega arith))
       (rw (next 1, next 2, next 3) refl)
     where
       next : (k : ℕ) → start + (i + k) ≡ start + i + k
       next k = omega arith
 
   -- a body that stands inside the file is as long as it says
-  pub body-long : (start size : ℕ) → start + size ≤ length file → length (bodyOf file (Body start size)) ≡ size
-  body-long start size h = omega (arith, length-take size (drop start file), length-drop start file)
+  body-long : start + size ≤ length file → length (bodyOf file (Body start size)) ≡ size
+  body-long h = omega (arith, length-take size (drop start file), length-drop start file)
 
-  -- no piece of a body whose bytes were looked at breaks its rule
-  unbroken : (start size width : ℕ) (breaks : List ℕ → ℕ → Bool) → start + size ≤ length file
-      → ltb (firstBroken (bodyOf file (Body start size)) width breaks) (length (bodyOf file (Body start size)) / width) ≡ false
-      → (i : ℕ) → i < size / width → breaks (bodyOf file (Body start size)) (i * width) ≡ false
-  unbroken start size width breaks inside e i h =
-      not-some _ (λ j. breaks (bodyOf file (Body start size)) (j * width)) e i (rw (body-long start size inside) h)
+-- ---- a test and what it tells
 
-  -- every byte of a section of bits is 0 or 1
-  bits : (start size : ℕ) → start + size ≤ length file
-      → ltb (firstBroken (bodyOf file (Body start size)) 1 notBit) (length (bodyOf file (Body start size)) / 1) ≡ false
-      → (i : ℕ) → i < size → getD file (start + i) 0 < 2
-  bits start size inside e i h =
-      let once : i * 1 ≡ i = omega arith in
-      let b = ltb-false 1 (getD (bodyOf file (Body start size)) (i * 1) 0) (unbroken start size 1 notBit inside e i (omega arith)) in
-      omega (arith, b, ap (λ (k : ℕ). getD (bodyOf file (Body start size)) k 0) once, body-at start size i h)
+-- a test that is true where a rule is broken
+breaks-rule : {t : Bool} {Rule : Type 0} → Means (not t) Rule → Means t (Rule → ⊥)
+breaks-rule {t} {Rule} m = go t m
+  where
+    go : (t : Bool) → Means (not t) Rule → Means t (Rule → ⊥)
+    go true m = (λ e r. never (m .1 r), λ f. refl)
+    go false m = (λ e. never e, λ f. absurd (f (m .0 refl)))
 
-  -- "Count n (2 to 32), then n proposals (0 or 1)."
+-- a test is true exactly where a line applies, and then it applies at this place only
+abbrev pub Tells : Bool → ℕ → (ℕ → Type 0) → Type 0
+Tells t place Applies = (t ≡ true → Applies place) × ((p : ℕ) → Applies p → (t ≡ true) × (p ≡ place))
+
+tells-at : {t : Bool} {place this : ℕ} {P : Type 0} → Means t P → place ≡ this → Tells t place (At this P)
+tells-at m same = (λ e. (m .0 e, same), λ p x. (m .1 (x .0), x .1 ∙ sym same))
+
+-- a comparison, said by the line in its own words
+pub tells-below : (a b : ℕ) {place this : ℕ} {P : Type 0} → (a < b → P) → (P → a < b) → place ≡ this → Tells (ltb a b) place (At this P)
+tells-below a b f g = tells-at (means-as f g means-lt)
+
+-- ---- any section
+
+-- the three tests before a section's bytes
+abbrev pub ordered : List ℕ → ℕ → Bool → Bool → Bool → Section → Section
+ordered file count a b c section = cond a (Refused 12 (length file)) (cond b (Refused 13 count) (cond c (Refused 12 (length file)) section))
+
+-- "In each section the count is read, then its rule tested, then the body's length, then its bytes."
+pub in-order : (file : List ℕ) (count : ℕ) (breaks : Bool) (size width : ℕ) (test : List ℕ → ℕ → Bool)
+    → checked file width test (counted file count breaks size) ≡ ordered file count (ltb (length file) (count + 2)) breaks (ltb (length file) (count + 2 + size)) (checked file width test (Body (count + 2) size))
+unfolding counted checked unlessBroken
+in-order file count breaks size width test = go (ltb (length file) (count + 2)) breaks (ltb (length file) (count + 2 + size))
+  where
+    go : (a b c : Bool) → checked file width test (ordered file count a b c (Body (count + 2) size)) ≡ ordered file count a b c (checked file width test (Body (count + 2) size))
+    go true b c = refl
+    go false true c = refl
+    go false false true = refl
+    go false false false = refl
+
+-- its tests mean the rule of its count and the rule of its pieces
+pub record Meant (file : List ℕ) (count : ℕ) (breaks : Bool) (Rule : Type 0) (size pieces width : ℕ) (test : List ℕ → ℕ → Bool) (Keeps : ℕ → Type 0) : Type 0 where
+  pub ruled : Means (not breaks) Rule
+  pub sized : size ≡ pieces * width
+  pub whole : size / width ≡ pieces
+  pub piece : (i : ℕ) → i < pieces → Means (not (test (bodyOf file (Body (count + 2) size)) (i * width))) (Keeps (count + 2 + i * width))
+
+-- what an accepted section says
+pub record Kept (file : List ℕ) (count : ℕ) (Rule : Type 0) (size pieces width : ℕ) (Keeps : ℕ → Type 0) (start long : ℕ) : Type 0 where
+  pub starts : start ≡ count + 2
+  pub sized : long ≡ size
+  pub inside : start + long ≤ length file
+  pub rule : Rule
+  pub each : (i : ℕ) → i < pieces → Keeps (count + 2 + i * width)
+
+module _ {file : List ℕ} {count : ℕ} {breaks : Bool} {Rule : Type 0} {size pieces width : ℕ} {test : List ℕ → ℕ → Bool} {Keeps : ℕ → Type 0}
+    (meant : Meant file count breaks Rule size pieces width test Keeps) where
+  abbrev body : List ℕ
+  body = bodyOf file (Body (count + 2) size)
+
+  abbrev broken : ℕ
+  broken = firstBroken body width test
+
+  abbrev Inside : Type 0
+  Inside = ltb (length file) (count + 2 + size) ≡ false
+
+  all : Inside → length body / width ≡ pieces
+  all inside = ap (λ (l : ℕ). l / width) (body-long file (count + 2) size (ltb-false (length file) (count + 2 + size) inside)) ∙ meant .whole
+
+  pub kept : (start long : ℕ) → start ≡ count + 2 → long ≡ size → breaks ≡ false → Inside → ltb broken (length body / width) ≡ false
+      → Kept file count Rule size pieces width Keeps start long
+  kept start long starts sized ruled inside none =
+      record {
+        starts = starts;
+        sized = sized;
+        inside = omega (arith, starts, sized, ltb-false (length file) (count + 2 + size) inside);
+        rule = meant .ruled .0 (ap not ruled);
+        each = λ i h. meant .piece i h .0 (ap not (not-some (length body / width) (λ j. test body (j * width)) none i (omega (arith, h, all inside))));
+      }
+
+  -- 13: "a count breaks its rule"
+  pub tells-rule : {this : ℕ} → count ≡ this → Tells breaks count (At this (Rule → ⊥))
+  tells-rule = tells-at (breaks-rule (meant .ruled))
+
+  -- 14: "a byte or row breaks its rule"
+  pub tells-first : Inside → Tells (ltb broken (length body / width)) (count + 2 + broken * width) (FirstThatBreaks (count + 2) pieces width Keeps)
+  tells-first inside = (found, only)
+    where
+      test-at : ℕ → Bool
+      test-at i = test body (i * width)
+
+      found : ltb broken (length body / width) ≡ true → FirstThatBreaks (count + 2) pieces width Keeps (count + 2 + broken * width)
+      found e =
+          let l = ltb-true broken (length body / width) e in
+          let few : broken < pieces = omega (arith, l, all inside) in (
+            broken,
+            few,
+            omega arith,
+            breaks-rule (meant .piece broken few) .0 (first-holds (length body / width) test-at l),
+            λ j h. meant .piece j (omega (arith, h, few)) .0 (ap not (first-before (length body / width) test-at j (omega (arith, h)))),
+          )
+
+      only : (p : ℕ) → FirstThatBreaks (count + 2) pieces width Keeps p → (ltb broken (length body / width) ≡ true) × (p ≡ count + 2 + broken * width)
+      only p x =
+          let broke : test-at (x .0) ≡ true = breaks-rule (meant .piece (x .0) (x .1)) .1 (rw (x .2) at (x .3)) in
+          let whole : (j : ℕ) → j < x .0 → test-at j ≡ false = λ j h. not-false (breaks-rule (meant .piece j (omega (arith, h, x .1)))) (λ f. f (x .4 j (omega (arith, h)))) in
+          let e : broken ≡ x .0 = first-at (length body / width) test-at (x .0) whole broke (omega (arith, x .1, all inside)) in
+          (lt-ltb broken (length body / width) (omega (arith, e, x .1, all inside)), x .2 ∙ ap (λ (k : ℕ). count + 2 + k * width) (sym e))
+
+  pub section-body : (start long : ℕ) → checked file width test (counted file count breaks size) ≡ Body start long → Kept file count Rule size pieces width Keeps start long
+  unfolding checked unlessBroken
+  section-body start long e = go (ltb (length file) (count + 2)) breaks (ltb (length file) (count + 2 + size)) (ltb broken (length body / width)) refl refl refl (sym (in-order file count breaks size width test) ∙ e)
+    where
+      go : (a b c d : Bool) → breaks ≡ b → ltb (length file) (count + 2 + size) ≡ c → ltb broken (length body / width) ≡ d
+          → ordered file count a b c (cond d (Refused 14 (count + 2 + broken * width)) (Body (count + 2) size)) ≡ Body start long → Kept file count Rule size pieces width Keeps start long
+      go true b c d x y z e = never-body e
+      go false true c d x y z e = never-body e
+      go false false true d x y z e = never-body e
+      go false false false true x y z e = never-body e
+      go false false false false x y z e = kept start long (sym (ap (startOr 0) e)) (sym (ap (sizeOr 0) e)) x y z
+
+-- ---- the four sections
+
+means-bit : (x : ℕ) → Means (not (ltb 1 x)) (x < 2)
+means-bit x = means-as {P = 1 < x → ⊥} (λ f. omega (arith, f)) (λ l q. omega arith) (means-not means-lt)
+
+module _ (file : List ℕ) where
+  -- a section of bits
+  bits-meant : (count size : ℕ) {breaks : Bool} {Rule : Type 0} → Means (not breaks) Rule → Meant file count breaks Rule size size 1 notBit (Bit file)
+  bits-meant count size ruled =
+      record {
+        ruled = ruled;
+        sized = omega arith;
+        whole = omega arith;
+        piece = λ i h. subst (λ (x : ℕ). Means (not (ltb 1 x)) (Bit file (count + 2 + i * 1))) (sym (body-at file (count + 2) size (i * 1) (omega (arith, h)))) (means-bit (getD file (count + 2 + i * 1) 0));
+      }
+
+  pub proposals-meant : Meant file 0 (notHeads (countAt file 0)) (Heads (countAt file 0)) (countAt file 0) (countAt file 0) 1 notBit (Bit file)
+  unfolding notHeads
+  proposals-meant = bits-meant 0 (countAt file 0) (means-twice (means-and (means-le 2 (countAt file 0)) (means-le (countAt file 0) 32)))
+
+  pub needed-meant : (count n : ℕ) → Meant file count (not (eqb (countAt file count) 1)) (countAt file count ≡ 1) 1 1 1 (notNeed n) (Need n file)
+  needed-meant count n =
+      record {
+        ruled = means-twice (means-eq (countAt file count) 1);
+        sized = omega arith;
+        whole = omega arith;
+        piece = λ i h.
+            let k = getD file (count + 2 + i * 1) 0 in
+            subst (λ (x : ℕ). Means (not (not (ltb n (x * 2) && leb x n))) ((n < k * 2) × (k ≤ n))) (sym (body-at file (count + 2) 1 (i * 1) (omega (arith, h))))
+            (means-twice (means-and means-lt (means-le k n)));
+      }
+
+  pub losses-meant : (count n : ℕ) → Meant file count (ltb 256 (countAt file count)) (countAt file count ≤ 256) (countAt file count * n * 4) (countAt file count * n) 4 (notRow n) (LossRow n file)
+  losses-meant count n =
+      record {
+        ruled = means-as {P = 256 < countAt file count → ⊥} (λ f. omega (arith, f)) (λ l q. omega arith) (means-not means-lt);
+        sized = refl;
+        whole = omega arith;
+        piece = λ i h.
+            subst (λ (x : ℕ). Means (not (not (within n x))) (LossRow n file (count + 2 + i * 4))) (sym (word-at file (count + 2) (countAt file count * n * 4) (i * 4) (omega (arith, h))))
+            (means-twice (means-within n (fourBytesAt file (count + 2 + i * 4))));
+      }
+
+  pub coins-meant : (count rows : ℕ) → Meant file count (not (eqb (countAt file count) rows)) (countAt file count ≡ rows) rows rows 1 notBit (Bit file)
+  coins-meant count rows = bits-meant count rows (means-twice (means-eq (countAt file count) rows))
+
+  -- ---- where their bodies stand, for the code
+
   pub record Proposals (start n : ℕ) : Type 0 where
     pub starts : start ≡ 2
-    pub counts : n ≡ countAt file 0
     pub heads : Heads n
-    pub inside : start + n ≤ length file
-    pub bit : (i : ℕ) → i < n → getD file (start + i) 0 < 2
 
   pub proposals-body : (start n : ℕ) → proposalsOf file ≡ Body start n → Proposals start n
   unfolding proposalsOf
-  proposals-body start n e =
-      let x = checked-body file 1 notBit _ start n e in
-      let c = counted-body file 0 _ _ start n (x .0) in
-      let inside : start + n ≤ length file = omega (arith, c .starts, c .sized, c .inside) in
-      record {
-        starts = omega (arith, c .starts);
-        counts = c .sized;
-        heads = subst Heads (sym (c .sized)) (few (countAt file 0) (c .ruled));
-        inside = inside;
-        bit = bits start n inside (x .1);
-      }
+  proposals-body start n e = let K = section-body proposals-meant start n e in record { starts = K .starts; heads = subst Heads (sym (K .sized)) (K .rule) }
 
-  -- "Count 1, then k, the heads needed: more than n/2, at most n."
-  pub record Needed (at n start one : ℕ) : Type 0 where
-    pub counts : countAt file at ≡ 1
+  pub record Needed (at start one : ℕ) : Type 0 where
     pub starts : start ≡ at + 2
     pub single : one ≡ 1
-    pub inside : start + one ≤ length file
-    pub most : n < getD file start 0 * 2
-    pub some : getD file start 0 ≤ n
 
-  pub needed-body : (at n start one : ℕ) → neededOf file at n ≡ Body start one → Needed at n start one
+  pub needed-body : (at n start one : ℕ) → neededOf file at n ≡ Body start one → Needed at start one
   unfolding neededOf
-  needed-body at n start one e =
-      let x = checked-body file 1 (notNeed n) _ start one e in
-      let c = counted-body file at _ 1 start one (x .0) in
-      let inside : start + one ≤ length file = omega (arith, c .starts, c .sized, c .inside) in
-      let byte = body-at start one 0 (omega (arith, c .sized)) in
-      let here : getD (bodyOf file (Body start one)) 0 0 ≡ getD file start 0 = byte ∙ ap (λ (k : ℕ). getD file k 0) (omega arith) in
-      let k = need-fits n _ (unbroken start one 1 (notNeed n) inside (x .1) 0 (omega (arith, c .sized))) in
-      record {
-        counts = eqb-true (countAt file at) 1 (not-false _ (c .ruled));
-        starts = c .starts;
-        single = c .sized;
-        inside = inside;
-        most = omega (arith, k .0, here);
-        some = omega (arith, k .1, here);
-      }
+  needed-body at n start one e = let K = section-body (needed-meant at n) start one e in record { starts = K .starts; single = K .sized }
 
-  -- "Count of rounds, 0 to 256; per round n rows of 4 bytes .. Bits from n up are zero."
   pub record Losses (at n start size : ℕ) : Type 0 where
     pub starts : start ≡ at + 2
     pub rounds : countAt file at ≤ 256
     pub sized : size ≡ countAt file at * n * 4
-    pub inside : start + size ≤ length file
-    pub row : (i : ℕ) → i < countAt file at * n → (s : ℕ) → member s (fourBytesAt file (start + i * 4)) ≡ true → s < n
 
   pub losses-body : (at n start size : ℕ) → lossesOf file at n ≡ Body start size → Losses at n start size
   unfolding lossesOf
-  losses-body at n start size e =
-      let x = checked-body file 4 (notRow n) _ start size e in
-      let c = counted-body file at _ _ start size (x .0) in
-      let inside : start + size ≤ length file = omega (arith, c .starts, c .sized, c .inside) in
-      record {
-        starts = c .starts;
-        rounds = ltb-false 256 (countAt file at) (c .ruled);
-        sized = c .sized;
-        inside = inside;
-        row = λ i h.
-            let low : i * 4 + 3 < size = omega (arith, h, c .sized) in
-            let fits = ap (within n) (sym (word-at start size (i * 4) low)) ∙ not-false _ (unbroken start size 4 (notRow n) inside (x .1) i (omega (arith, h, c .sized))) in
-            means-within n (fourBytesAt file (start + i * 4)) .0 fits;
-      }
+  losses-body at n start size e = let K = section-body (losses-meant at n) start size e in record { starts = K .starts; rounds = K .rule; sized = K .sized }
 
-  -- "Count n times rounds, then that many coins (0 or 1)"
-  pub record Coins (at count start size : ℕ) : Type 0 where
-    pub counts : countAt file at ≡ count
-    pub starts : start ≡ at + 2
-    pub sized : size ≡ count
-    pub inside : start + size ≤ length file
-    pub bit : (i : ℕ) → i < size → getD file (start + i) 0 < 2
-
-  pub coins-body : (at count start size : ℕ) → coinsOf file at count ≡ Body start size → Coins at count start size
+  pub coins-body : (at count start size : ℕ) → coinsOf file at count ≡ Body start size → Kept file at (countAt file at ≡ count) count count 1 (Bit file) start size
   unfolding coinsOf
-  coins-body at count start size e =
-      let x = checked-body file 1 notBit _ start size e in
-      let c = counted-body file at _ count start size (x .0) in
-      let inside : start + size ≤ length file = omega (arith, c .starts, c .sized, c .inside) in
-      record {
-        counts = eqb-true (countAt file at) count (not-false _ (c .ruled));
-        starts = c .starts;
-        sized = c .sized;
-        inside = inside;
-        bit = bits start size inside (x .1);
-      }
+  coins-body at count = section-body (coins-meant at count)

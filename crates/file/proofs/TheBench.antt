@@ -1,6 +1,6 @@
 -- The bench. Read this page first: each theorem below answers the sentence above it, over the definitions that the promises
--- of crate `run` cite. Specs: Section and Plan for the file, Table and Vote for the run, Figures and Report for what is
--- printed.
+-- of crate `run` cite. Specs: Refusal and Rules for what a file must be, Section and Plan for how it is read, Table and Vote
+-- for the run, Figures and Report for what is printed.
 use Prim.Native.Nat.{ℕ, _+_, _*_, _≤_, _<_}
 use mathlib.Core.Path.{_≡_, refl, sym, ap, _∙_}
 use mathlib.Core.List.{List}
@@ -17,13 +17,13 @@ use Rattle.rules.specs.Run.{Vote, Event, headIn, Run}
 use Rattle.rules.proofs.Demands.{no-two-decisions-differ, each-was-proposed}
 use Rattle.file.specs.declared.Plan.{Plan}
 use Rattle.file.specs.Rules.{KeepsEveryRule}
+use Rattle.file.specs.Refusal.{Given, fileRefusals}
 use Rattle.file.specs.Plan.{planOf}
 use Rattle.file.specs.Table.{headOf, startsIn, rowsIn, coinsIn, receivedIn, roundsIn, tableAfter}
 use Rattle.file.specs.Vote.{voteIn, eventsIn}
 use Rattle.file.specs.Figures.{outcomeIn, outcomeOf}
 use Rattle.file.specs.Report.{reportOf}
-use Rattle.file.proofs.Plans.{accepted-file, refused-file}
-use Rattle.file.proofs.Exactly.{planned-so}
+use Rattle.file.proofs.Plans.{plan-given, accepted-file, refused-file, no-line-applies-exactly-when-every-rule-is-kept}
 use Rattle.file.proofs.Placing.{after-length, after-rest}
 use Rattle.file.proofs.BenchIsRun.{heads-are, rounds-are-run, bench-tick-accepted}
 use Rattle.file.proofs.FirstBytes.{refused-table, the-first-bytes-decide}
@@ -52,11 +52,18 @@ accepted file table zero = accepted-file file (length table) (sym (same-number f
 
 -- ---- Demand 1
 
--- "Bad input is refused": a file is accepted exactly when it keeps every rule of document 01 (specs/Rules)
+-- "Bad input is refused by the first number that applies": document 01's numbers 12 to 16 and their places, line by line
+-- (specs/Refusal)
+pub a-file-is-refused-by-the-first-number-that-applies : (file : List ℕ) (table : List Head) (number place : ℕ)
+    → ((outcomeOf file table .number ≡ number) × (outcomeOf file table .place ≡ place)) ↔ Given number place (fileRefusals file (length table))
+unfolding outcomeOf outcomeIn
+a-file-is-refused-by-the-first-number-that-applies file table = plan-given file (length table)
+
+-- a file is accepted exactly when it keeps every rule of document 01 (specs/Rules)
 pub a-file-is-accepted-exactly-when-it-keeps-every-rule : (file : List ℕ) (table : List Head) → Accepts file table ↔ ((plan : Plan) × KeepsEveryRule file (length table) plan)
 a-file-is-accepted-exactly-when-it-keeps-every-rule file table = (
   λ zero. (planFor file table, accepted file table zero),
-  λ rules. same-number file table ∙ ap (λ (p : Plan). p .number) (planned-so file (length table) (rules .0) (rules .1)),
+  λ rules. same-number file table ∙ plan-given file (length table) 0 0 .1 (no-line-applies-exactly-when-every-rule-is-kept file (length table) .1 rules) .0,
 )
 
 -- and a refused one is refused by a number from 12 to 16
