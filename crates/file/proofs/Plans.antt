@@ -119,8 +119,8 @@ module _ (file : List ℕ) (room : ℕ) where
               proposal = λ i h. moved (Bit file) (P .each i h) (omega arith);
               second = N .rule;
               needed = ap (λ (p : ℕ). getD file p 0) (omega arith);
-              most = moved (λ p. n < getD file p 0 * 2) (N .each 0 (omega arith) .0) (omega arith);
-              some = moved (λ p. getD file p 0 ≤ n) (N .each 0 (omega arith) .1) (omega arith);
+              moreThanHalf = moved (λ p. n < getD file p 0 * 2) (N .each 0 (omega arith) .0) (omega arith);
+              atMost = moved (λ p. getD file p 0 ≤ n) (N .each 0 (omega arith) .1) (omega arith);
               third = ap (countAt file) (omega arith);
               rounds = L .rule;
               losses = omega arith;
@@ -189,7 +189,7 @@ module _ (file : List ℕ) (room : ℕ) where
       need : (i : ℕ) → i < 1 → Need n file (second + 2 + i * 1)
       need i h =
           let k : getD file (second + 2 + i * 1) 0 ≡ plan .needed = moved (λ p. getD file p 0 ≡ plan .needed) (keeps .needed) (omega (arith, same, h)) in
-          (omega (arith, k, keeps .most, same), omega (arith, k, keeps .some, same))
+          (omega (arith, k, keeps .moreThanHalf, same), omega (arith, k, keeps .atMost, same))
 
   pub no-line-applies-exactly-when-every-rule-is-kept : Given 0 0 (fileRefusals file room) ↔ ((plan : Plan) × KeepsEveryRule file room plan)
   no-line-applies-exactly-when-every-rule-is-kept = (λ none. (planOf file room, accepted-file (plan-given 0 0 .1 none .0)), λ rules. keeps-given (rules .0) (rules .1) .none)

@@ -3,10 +3,14 @@
 -- for the run, Figures and Report for what is printed.
 use Prim.Native.Nat.{ℕ, _+_, _*_, _≤_, _<_}
 use mathlib.Core.Path.{_≡_, refl, sym, ap, _∙_}
-use mathlib.Core.List.{List}
-use mathlib.Core.Logic.{_↔_}
+use mathlib.Core.List.{List, [], _∷_}
+use mathlib.Core.Bool.{Bool, true, false, cond}
+use mathlib.Core.Logic.{_⊎_, inl, inr, _↔_}
 use native.Mathlib.Omega.{arith}
+use native.Mathlib.Nat.{mul-le-mul}
 use lib.ListN.{length, getD, take}
+use lib.Dec.{eqb}
+use borrow.Author.Tests.{eq-eqb}
 use Rattle.rules.specs.declared.Head.{Head}
 use Rattle.rules.specs.Ballot.{valueOf}
 use Rattle.rules.specs.Head.{decisionFor}
@@ -16,12 +20,14 @@ use Rattle.rules.specs.Given.{WrittenDecision}
 use Rattle.rules.specs.Run.{Vote, Event, headIn, Run}
 use Rattle.rules.proofs.Demands.{no-two-decisions-differ, each-was-proposed}
 use Rattle.file.specs.declared.Plan.{Plan}
+use Rattle.file.specs.Section.{countAt}
 use Rattle.file.specs.Rules.{KeepsEveryRule}
-use Rattle.file.specs.Refusal.{Given, fileRefusals}
+use Rattle.file.specs.Refusal.{Line, _exactly-when_, Given, fileRefusals}
 use Rattle.file.specs.Plan.{planOf}
 use Rattle.file.specs.Table.{headOf, startsIn, rowsIn, coinsIn, receivedIn, roundsIn, tableAfter}
 use Rattle.file.specs.Vote.{voteIn, eventsIn}
 use Rattle.file.specs.Figures.{outcomeIn, outcomeOf}
+use Rattle.file.specs.Benched.{emptyTable, benchedOf}
 use Rattle.file.specs.Report.{reportOf}
 use Rattle.file.proofs.Plans.{plan-given, accepted-file, refused-file, no-line-applies-exactly-when-every-rule-is-kept}
 use Rattle.file.proofs.Placing.{after-length, after-rest}
@@ -72,6 +78,43 @@ a-file-is-refused-by-12-to-16 file table refused =
     let R = refused-file file (length table) (λ zero. refused (same-number file table ∙ zero)) in
     let number = same-number file table ∙ ap (λ (p : Plan). p .number) (R .is) in
     (omega (arith, number, R .low), omega (arith, number, R .high))
+
+-- where a number other than 0 is given, one of its lines applies at the place
+abbrev Applying : ℕ → ℕ → List Line → Type 0
+Applying number place [] = ⊥
+Applying number place ((k exactly-when Applies) ∷ later) = cond (eqb k number) (Applies place ⊎ Applying number place later) (Applying number place later)
+
+given-applies : (number place : ℕ) (lines : List Line) → (number ≡ 0 → ⊥) → Given number place lines → Applying number place lines
+given-applies number place [] some g = absurd (some (g .0))
+given-applies number place ((k exactly-when Applies) ∷ later) some (inl x) = rw (eq-eqb k number (sym (x .1))) (inl (x .0))
+given-applies number place ((k exactly-when Applies) ∷ later) some (inr x) = go (eqb k number) (given-applies number place later some (x .1))
+  where
+    go : (t : Bool) → Applying number place later → cond t (Applies place ⊎ Applying number place later) (Applying number place later)
+    go true y = inr y
+    go false y = y
+
+-- a report's table has room for every vote: "16 .. table shorter than n" is never printed
+pub a-report-never-gives-16 : (file : List ℕ) → benchedOf file .outcome .number ≡ 16 → ⊥
+a-report-never-gives-16 file number = go (a-file-is-refused-by-the-first-number-that-applies file emptyTable 16 place .0 (number, refl))
+  where
+    place : ℕ
+    place = outcomeOf file emptyTable .place
+
+    -- with more than 32 heads, 13 applies before
+    too-many : 32 < countAt file 0 → Given 16 place (fileRefusals file 32) → ⊥
+    too-many many (inl x) = omega (arith, x .1)
+    too-many many (inr (whole, inl x)) = omega (arith, x .1)
+    too-many many (inr (whole, inr x)) = x .0 0 (λ heads. omega (arith, heads .1, many), refl)
+
+    go : Given 16 place (fileRefusals file 32) → ⊥
+    go g = elim (given-applies 16 place (fileRefusals file 32) (λ e. omega (arith, e)) g) [ inl x ↦ too-many (x .0) g | inr none ↦ none ]
+
+-- "The largest file is 41,001 bytes."
+pub an-accepted-file-has-at-most-41001-bytes : (file : List ℕ) (table : List Head) → Accepts file table → length file ≤ 41001
+an-accepted-file-has-at-most-41001-bytes file table zero =
+    let keeps = accepted file table zero in
+    let rows : planFor file table .rounds * planFor file table .n ≤ 256 * 32 = mul-le-mul (keeps .rounds) (keeps .heads .1) in
+    omega (arith, keeps .whole, keeps .coins, keeps .heads .1, rows)
 
 -- "Refused: nothing in the table changes."
 pub a-refused-file-changes-nothing : (file : List ℕ) (table : List Head) → (Accepts file table → ⊥) → tableAfter file table ≡ table

@@ -19,8 +19,8 @@ pub record KeepsEveryRule (file : List ℕ) (room : ℕ) (plan : Plan) : Type 0 
   -- "Count 1, then k, the heads needed: more than n/2, at most n."
   pub second : countAt file (2 + plan .n) ≡ 1
   pub needed : getD file (4 + plan .n) 0 ≡ plan .needed
-  pub most : plan .n < plan .needed * 2
-  pub some : plan .needed ≤ plan .n
+  pub moreThanHalf : plan .n < plan .needed * 2
+  pub atMost : plan .needed ≤ plan .n
   -- "Count of rounds, 0 to 256; per round n rows of 4 bytes .. Bits from n up are zero."
   pub third : countAt file (5 + plan .n) ≡ plan .rounds
   pub rounds : plan .rounds ≤ 256
