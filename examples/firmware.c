@@ -58,7 +58,8 @@ static uint32_t one_tick(void)
     radio_send(list);
 
     used += radio_receive(list + used, sizeof list - used);
-    /* Refused: the record is as it was, this list is dropped, and the next brings other ballots. */
+    /* Refused: the record is as it was, this list is dropped, and the next brings other ballots.
+       Firmware that knows a damaged frame leaves that ballot out. */
     number = vote_tick(record, sizeof record, list, used, random_bit());
     show(number, used / VOTE_BALLOT_BYTES);
     return number;

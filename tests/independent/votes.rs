@@ -152,7 +152,7 @@ pub fn broken(
     None
 }
 
-/// Demand 2: "Each accepted tick does what Algorithm 1 does with all ballots heard so far".
+/// Demand 2: "Each accepted tick does what Algorithm 1 .. does with all ballots heard so far".
 fn unlike_algorithm(asked: &Asked, answer: &Answer) -> Option<&'static str> {
     let state = asked.algorithm?;
     match answer.number {

@@ -1,5 +1,5 @@
--- No second answer fits: two answers, and two later contents of what was lent, that both meet a public function's promise
--- are equal. Stated over the promises themselves, as the functions carry them.
+-- No second answer fits: two answers that both meet a public function's promise are equal. Stated over the promises
+-- themselves, as the functions carry them. What is lent here is lent by `&`, through which nothing can be written.
 use mathlib.Core.Path.{_≡_}
 use Rattle.rules.proofs.Answers.{only}
 use Rattle.rules.proofs.Ballots.{one-answer}

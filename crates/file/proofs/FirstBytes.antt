@@ -174,7 +174,7 @@ module _ (file : List ℕ) (m : ℕ) (enough : 41002 ≤ m) (longer : m < length
       let y = refused-table front emptyTable (R .number) (R .place) (plan-same 32 ∙ R .is) in
       ap₂ (λ (o : Outcome) (t : List Head). joined (linesOf (record { outcome = o; heads = t }))) (f ∙ sym e) (y ∙ sym x)
 
--- "41,002 bytes decide"
+-- 41,002 bytes decide
 pub the-first-bytes-decide : (file : List ℕ) (m : ℕ) → 41002 ≤ m → reportOf (take m file) ≡ reportOf file
 the-first-bytes-decide file m enough = go (decLt m (length file))
   where

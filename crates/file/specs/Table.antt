@@ -39,7 +39,8 @@ abbrev pub receivedIn : List Head → ℕ → ℕ → List ℕ
 receivedIn table lost zero = []
 receivedIn table lost (suc k) = receivedIn table lost k ++ cond (member k lost) [] (bytesOf (ballotOf (headOf table k)))
 
--- "each head .. is ticked with those not lost to it .. and its coin of that round"; "one row per receiver in number order"
+-- "each head .. is ticked with those not lost to it .. and its coin of that round"; "one per receiver in number
+-- order"
 abbrev pub tickedIn : ℕ → List ℕ → List ℕ → List Head → ℕ → Head
 tickedIn n rows coins table s =
     tickOf (headOf table s) (receivedIn table (fourBytesAt rows (s * 4)) n) (getD coins s 0) .head

@@ -1,6 +1,7 @@
 -- Demand 3 at short runs, computed: under a wrong rule the demand's own statement is false at one of them. They are
--- document 01's rounds, so they are runs under such a rule too (WorkedRunsAreRuns). The prover takes the files by name:
--- with this one and AWorkedTick first, it refuses a wrong rule here, before the lemmas that no longer fit.
+-- document 01's rounds, and so runs (WorkedRunsAreRuns). The prover takes the files by name: this one and AWorkedTick stand
+-- first, so that a wrong rule is refused here, before the lemmas that no longer fit. When they were written, the edits
+-- demand2_.. and demand3_.. were; the gate checks only that an edit is refused.
 use Prim.Native.Nat.{ℕ, _<_}
 use mathlib.Core.Path.{_≡_, refl, sym, _∙_}
 use mathlib.Core.List.{List, [], _∷_, _++_}

@@ -94,7 +94,7 @@ both-counts (suc k) p q = let i = both-counts k p q in let e = go (p k) (q k) in
     go false true = refl
     go false false = refl
 
--- "two majorities meet"
+-- two majorities meet
 pub meet : (n : ℕ) (p q : ℕ → Bool) → n < count n p * 2 → n < count n q * 2 → (s : ℕ) × (s < n) × (p s ≡ true) × (q s ≡ true)
 meet n p q hp hq =
     let u = both-counts n p q in

@@ -1,4 +1,4 @@
--- Steps 1 and 2: whom a head hears afterwards. "The three sets counted by sender."
+-- Steps 1 and 2: whom a head hears afterwards. The three sets, "counted by sender".
 use Prim.Native.Nat.{ℕ, _^_, _≤_, _<_}
 use mathlib.Core.Path.{_≡_, refl, sym, ap, subst, _∙_}
 use mathlib.Core.List.{List}

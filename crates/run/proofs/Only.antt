@@ -1,5 +1,6 @@
 -- No second answer fits: two answers, and two later contents of what was lent, that both meet a public function's promise
--- are equal. Stated over the promises themselves, as the functions carry them.
+-- are equal. For `report` this is stated over the promise itself, as the function carries it. For the two walked functions,
+-- `bench` and `run_file`, over what `bench-says` and `run-file-says` read off their promises.
 use mathlib.Core.Path.{_≡_, refl}
 use Prim.Native.Nat.{ℕ}
 use mathlib.Core.List.{List}
