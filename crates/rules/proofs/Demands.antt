@@ -185,7 +185,7 @@ a-written-one-stays vote events (e ∷ later) run s h w =
 pub no-tick-is-refused-before-the-last-phase : (vote : Vote) (events : List Event) (e : Event) → Run vote (e ∷ events) → NotRefusedBeforeTheLastPhase vote events e
 no-tick-is-refused-before-the-last-phase vote events e run = event-number vote events e (kept-run vote events (run .0)) (run .1)
 
--- every head of every world is sound
+-- every head of every run is sound
 pub heads-stay-sound : (vote : Vote) (events : List Event) → Run vote events → (s : ℕ) → s < vote .n → Sound (headIn vote events s)
 heads-stay-sound vote events run = kept-run vote events run .sound
 
