@@ -6,6 +6,6 @@ pub mod Decimals
 pub mod Computing
 pub mod PrintedCase
 pub mod AFewReports
-pub mod RefusedFiles
+pub mod AFewRefusals
 pub mod FirstBytes
 pub mod TheBench
