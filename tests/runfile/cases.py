@@ -177,7 +177,7 @@ def main(folders):
     for folder in folders:
         for path in sorted(glob.glob(os.path.join(folder, "*.run"))):
             test_report(path)
-    print("%d passed, %d failed" % (passed, failed))
+    print("runfile: %d as expected, %d not" % (passed, failed))
     return 1 if failed or not passed else 0
 
 
