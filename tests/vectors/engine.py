@@ -200,6 +200,10 @@ def send(head):
 
 # --------------------------------------------------------------- one tick
 
+class Refused(Exception):
+    """Carries the number that is given back."""
+
+
 def tick(head, data, coin):
     """Given a head, a list of 0 to 64 ballots as bytes, and a coin.
 
@@ -207,131 +211,183 @@ def tick(head, data, coin):
     The refusals stand in the order of their numbers, so the first that applies
     is the one that is given.
     """
+    try:
+        refuse_call(head, data, coin)
+        ballots = ballots_of(head, data)
+        refuse_own(head, ballots)
+        refuse_differing(head, ballots)
+        return 0, Steps(head, ballots, coin).after()
+    except Refused as refused:
+        return refused.args[0], head
+
+
+def refuse_call(head, data, coin):
     # 3: head not sound.
     if not sound(head):
-        return 3, head
-
+        raise Refused(3)
     # 4: coin above 1, even if not needed.
     if coin > 1:
-        return 4, head
-
+        raise Refused(4)
     # 5: list length not a multiple of 5, or over 320 bytes.
     if len(data) % 5 != 0:
-        return 5, head
+        raise Refused(5)
     if len(data) > 320:
-        return 5, head
+        raise Refused(5)
 
+
+def ballots_of(head, data):
     # 6: a ballot breaks a ballot rule.  (A ballot below the phase too.)
     ballots = []
     for place in range(0, len(data), 5):
         ballot = ballot_of(head.n, data[place:place + 5])
         if ballot is None:
-            return 6, head
+            raise Refused(6)
         ballots.append(ballot)
+    return ballots
 
+
+def refuse_own(head, ballots):
     # 7: a ballot under the head's own number has a higher phase, or the same
     # phase and another value or status.
     for ballot in ballots:
         if ballot.sender == head.own:
             if ballot.phase > head.phase:
-                return 7, head
+                raise Refused(7)
             if ballot.phase == head.phase and ballot.value != head.value:
-                return 7, head
+                raise Refused(7)
             if ballot.phase == head.phase and ballot.status != head.status:
-                return 7, head
+                raise Refused(7)
 
+
+def refuse_differing(head, ballots):
     # 8: two ballots of one sender and phase differ;
     for one in ballots:
         for other in ballots:
             if one.sender == other.sender and one.phase == other.phase:
                 if one != other:
-                    return 8, head
+                    raise Refused(8)
     # or one at the present phase differs in value from what that sender is
     # held under.
     held = dict(head.heard)
     for ballot in ballots:
         if ballot.phase == head.phase and ballot.sender in held:
             if ballot.value != held[ballot.sender]:
-                return 8, head
+                raise Refused(8)
 
-    # Step 1.  Add the ballots to what was heard.  Equal repeats count once:
-    # this is a set.  Ballots below the present phase change nothing.
-    everything_heard = {(head.phase, sender, value) for sender, value in head.heard}
-    for ballot in ballots:
-        if ballot.phase >= head.phase:
-            everything_heard.add((ballot.phase, ballot.sender, ballot.value))
 
-    # Step 2.  If some ballot has a higher phase, take phase, value and status
-    # from a ballot of the highest phase; among several senders the lowest
-    # number gives it.
-    phase = head.phase
-    value = head.value
-    status = head.status
-    higher = [ballot for ballot in ballots if ballot.phase > head.phase]
-    if higher:
-        highest_phase = max(ballot.phase for ballot in higher)
-        of_highest_phase = [b for b in higher if b.phase == highest_phase]
-        giver = min(of_highest_phase, key=lambda b: b.sender)
-        phase = giver.phase
-        value = giver.value
-        status = giver.status
-    # Heard sets now hold that phase's ballots only.
-    heard = {(s, v) for p, s, v in everything_heard if p == phase}
+class Steps:
+    """The four steps: phase, value, status and what was heard, as they change.
 
-    def heads_heard_with(wanted):
-        return len({s for s, v in heard if v == wanted})
+    The head stays as it came.
+    """
 
-    # 9: after step 2, phase even and both 0 and 1 heard.
-    if phase % 2 == 0 and heads_heard_with(0) > 0 and heads_heard_with(1) > 0:
-        return 9, head
+    def __init__(self, head, ballots, coin):
+        self.head = head
+        self.ballots = ballots
+        self.coin = coin
+        self.phase = head.phase
+        self.value = head.value
+        self.status = head.status
 
-    # Step 3.  If the number of heads heard at the phase, doubled, exceeds n,
-    # step:
-    heads_heard = len({s for s, v in heard})
-    if heads_heard * 2 > head.n:
+    def after(self):
+        """The head after the steps."""
+        self.add_ballots()
+        self.copy_highest()
+        self.refuse_both_heard()
+        # Step 3.  If the number of heads heard at the phase, doubled, exceeds
+        # n, step:
+        if self.heads_heard() * 2 > self.head.n:
+            self.step()
+        self.refuse_end()
+        return replace(self.head, phase=self.phase, value=self.value, status=self.status,
+                       decision=self.decision(), heard=frozenset(self.heard))
+
+    def add_ballots(self):
+        head = self.head
+        # Step 1.  Add the ballots to what was heard.  Equal repeats count once:
+        # this is a set.  Ballots below the present phase change nothing.
+        self.everything_heard = {(head.phase, sender, value) for sender, value in head.heard}
+        for ballot in self.ballots:
+            if ballot.phase >= head.phase:
+                self.everything_heard.add((ballot.phase, ballot.sender, ballot.value))
+
+    def copy_highest(self):
+        # Step 2.  If some ballot has a higher phase, take phase, value and
+        # status from a ballot of the highest phase; among several senders the
+        # lowest number gives it.
+        self.higher = [ballot for ballot in self.ballots if ballot.phase > self.head.phase]
+        if self.higher:
+            highest_phase = max(ballot.phase for ballot in self.higher)
+            of_highest_phase = [b for b in self.higher if b.phase == highest_phase]
+            giver = min(of_highest_phase, key=lambda b: b.sender)
+            self.phase = giver.phase
+            self.value = giver.value
+            self.status = giver.status
+        # Heard sets now hold that phase's ballots only.
+        self.heard = {(s, v) for p, s, v in self.everything_heard if p == self.phase}
+
+    def refuse_both_heard(self):
+        # 9: after step 2, phase even and both 0 and 1 heard.
+        if self.phase % 2 == 0 and self.heads_with(0) > 0 and self.heads_with(1) > 0:
+            raise Refused(9)
+
+    def step(self):
         # 10: step 3 would need phase 65,536.
-        if phase + 1 == 65536:
-            return 10, head
-        if phase % 2 == 1:
-            # odd phase: if a value was heard from more than n/2 heads, take
-            # it, else blank;
-            if heads_heard_with(0) > head.n / 2:
-                value = 0
-            elif heads_heard_with(1) > head.n / 2:
-                value = 1
-            else:
-                value = BLANK
+        if self.phase + 1 == 65536:
+            raise Refused(10)
+        if self.phase % 2 == 1:
+            self.odd_step()
         else:
-            # even phase: if a value 0 or 1 was heard from more than n/2
-            # heads, become decided;
-            if heads_heard_with(0) > head.n / 2 or heads_heard_with(1) > head.n / 2:
-                status = DECIDED
-            # then take the value 0 or 1 that was heard at all, else the coin.
-            if heads_heard_with(0) > 0:
-                value = 0
-            elif heads_heard_with(1) > 0:
-                value = 1
-            else:
-                value = coin
+            self.even_step()
         # Then phase rises by one and the sets become empty.
-        phase = phase + 1
-        heard = set()
+        self.phase = self.phase + 1
+        self.heard = set()
 
-    # 11: the end would be decided with a blank,
-    if status == DECIDED and value == BLANK:
-        return 11, head
-    # or with a value unlike the decision already written.
-    if status == DECIDED and head.decision != NONE and value != head.decision:
-        return 11, head
+    def odd_step(self):
+        # odd phase: if a value was heard from more than n/2 heads, take it,
+        # else blank;
+        if self.heads_with(0) > self.head.n / 2:
+            self.value = 0
+        elif self.heads_with(1) > self.head.n / 2:
+            self.value = 1
+        else:
+            self.value = BLANK
 
-    # Step 4.  If decided, the decision is the value.
-    # (Step 2 can put status back to undecided.  The decision stays.)
-    decision = head.decision
-    if status == DECIDED:
-        decision = value
+    def even_step(self):
+        half = self.head.n / 2
+        # even phase: if a value 0 or 1 was heard from more than n/2 heads,
+        # become decided;
+        if self.heads_with(0) > half or self.heads_with(1) > half:
+            self.status = DECIDED
+        # then take the value 0 or 1 that was heard at all, else the coin.
+        if self.heads_with(0) > 0:
+            self.value = 0
+        elif self.heads_with(1) > 0:
+            self.value = 1
+        else:
+            self.value = self.coin
 
-    return 0, replace(head, phase=phase, value=value, status=status,
-                      decision=decision, heard=frozenset(heard))
+    def refuse_end(self):
+        written = self.head.decision
+        # 11: the end would be decided with a blank,
+        if self.status == DECIDED and self.value == BLANK:
+            raise Refused(11)
+        # or with a value unlike the decision already written.
+        if self.status == DECIDED and written != NONE and self.value != written:
+            raise Refused(11)
+
+    def decision(self):
+        # Step 4.  If decided, the decision is the value.
+        if self.status == DECIDED:
+            return self.value
+        # Step 2 can put status back to undecided.  The decision stays.
+        return self.head.decision
+
+    def heads_heard(self):
+        return len({s for s, v in self.heard})
+
+    def heads_with(self, wanted):
+        return len({s for s, v in self.heard if v == wanted})
 
 
 # ---------------------------------------------------------- C's 20 bytes
