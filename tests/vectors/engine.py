@@ -151,6 +151,10 @@ def sound(head):
     # a decision means phase 3 or more;
     if head.decision != NONE and head.phase < 3:
         return False
+    return sets_fit(head)
+
+
+def sets_fit(head):
     # the three sets are disjoint,
     senders = [sender for sender, value in head.heard]
     if len(senders) != len(set(senders)):

@@ -12,17 +12,20 @@ import types
 
 sys.dont_write_bytecode = True
 
+import engine
 import make
+from line import answer
 from seeded_errors import ERRORS
+from vector import vectors
 
 HERE = os.path.dirname(os.path.abspath(__file__))
 
 
 def answers_of(model):
     given = []
-    for letter, arguments in make.vectors:
+    for letter, arguments in vectors:
         try:
-            given.append(make.answer(letter, arguments, model))
+            given.append(answer(letter, arguments, model))
         except Exception as broken:     # an error may break on a vector: that shows too
             given.append(repr(broken))
     return given
@@ -32,7 +35,7 @@ def main():
     make.make()
     with open(os.path.join(HERE, "engine.py")) as file:
         source = file.read()
-    right = answers_of(make.engine)
+    right = answers_of(engine)
     missed = 0
     thin = 0
     for what, old, new in ERRORS:
