@@ -3,8 +3,9 @@
     python3 tests/independent/standin.py < FILE
 
 errors.py puts errors into this text, to see whether the comparison of files
-finds them.  Rows are numbers here, and the heads are those of the model in
-tests/vectors.
+finds them.  So it reads run files by itself and not with tools/run_file.py: the
+errors of reading need a place too.  Rows are numbers here, and the heads are
+those of the model in tests/vectors.
 """
 
 import os

@@ -1,27 +1,20 @@
 """Tests of tools/runfile; tests/runfile/run says how to call it."""
 
 import glob
-import importlib.machinery
-import importlib.util
 import os
 import random
+import subprocess
 import sys
 
 sys.dont_write_bytecode = True
 
-ROOT = os.path.join(os.path.dirname(os.path.abspath(__file__)), "..", "..")
+TOOLS = os.path.join(os.path.dirname(os.path.abspath(__file__)), "..", "..", "tools")
+SAMPLES = os.path.join(TOOLS, "..", "samples")
+sys.path.insert(0, TOOLS)
 
+import run_file
+import run_text
 
-def load():
-    """The tool has no .py in its name, so it is loaded by its path."""
-    path = os.path.join(ROOT, "tools", "runfile")
-    loader = importlib.machinery.SourceFileLoader("runfile", path)
-    module = importlib.util.module_from_spec(importlib.util.spec_from_loader("runfile", loader))
-    loader.exec_module(module)
-    return module
-
-
-runfile = load()
 passed = failed = 0
 
 
@@ -37,25 +30,25 @@ def expect(what, given, expected):
 def written(text):
     """The file's bytes, or the mistake."""
     try:
-        if runfile.is_bytes(text):
-            return runfile.bytes_of(text)
-        return runfile.file_of(runfile.run_of(text))
-    except runfile.Mistake as mistake:
+        if run_text.is_bytes(text):
+            return run_text.bytes_of(text)
+        return run_file.file_of(run_text.run_of(text))
+    except run_text.Mistake as mistake:
         return str(mistake)
 
 
 def read(data):
     """The text, or the bench's line of refusal."""
     try:
-        return runfile.text_of(runfile.run_in(data))
-    except runfile.Refusal as refusal:
+        return run_text.text_of(run_file.run_in(data))
+    except run_file.Refusal as refusal:
         return "refused %d at %d\n" % refusal.args[:2]
 
 
 # ---- Writing what was read gives the same bytes
 
 def random_run(chance):
-    run = runfile.Run()
+    run = run_file.Run()
     n = chance.choice([2, 3, 4, 5, 8, 31, 32])
     run.proposals = [chance.randrange(2) for _ in range(n)]
     run.need = chance.randrange(n // 2 + 1, n + 1)
@@ -70,7 +63,7 @@ def random_run(chance):
 def test_random():
     chance = random.Random(1)
     for index in range(300):
-        data = runfile.file_of(random_run(chance))
+        data = run_file.file_of(random_run(chance))
         text = read(data)
         expect("random file %d, read and written" % index, written(text), data)
         expect("random file %d, read again" % index, read(written(text)), text)
@@ -163,10 +156,30 @@ def test_report(path):
 
 
 def test_samples():
-    for path in sorted(glob.glob(os.path.join(ROOT, "samples", "*.run"))):
+    for path in sorted(glob.glob(os.path.join(SAMPLES, "*.run"))):
         text = contents(path[:-4] + ".txt").decode()
         expect(path + " of its text", written(text), contents(path))
         test_report(path)
+
+
+# ---- The command
+
+def called(word, data):
+    """Status, standard output and standard error."""
+    command = [sys.executable, os.path.join(TOOLS, "runfile"), word]
+    ended = subprocess.run(command, input=data, capture_output=True)
+    return ended.returncode, ended.stdout, ended.stderr.decode()
+
+
+def test_command():
+    text = b"propose 1 1 0\nneed 2\nround 2 times\n"
+    expect("write", called("write", text), (0, PRINTED, ""))
+    expect("read", called("read", PRINTED), (0, text, ""))
+    expect("write, a mistake", called("write", b"need 2"),
+           (1, b"", "runfile: line 1: the proposals come first\n"))
+    expect("read, a refusal", called("read", PRINTED[:-1]),
+           (1, b"", "refused 12 at 41: the file ends inside the coins\n"))
+    expect("another word", called("print", b"")[0], 2)
 
 
 def main(folders):
@@ -174,6 +187,7 @@ def main(folders):
     test_texts()
     test_refusals()
     test_samples()
+    test_command()
     for folder in folders:
         for path in sorted(glob.glob(os.path.join(folder, "*.run"))):
             test_report(path)
