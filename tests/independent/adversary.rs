@@ -5,69 +5,12 @@
 //! others are far ahead, and may decide after them and at a lower phase.
 
 use crate::chance::Chance;
+use crate::draft::Draft;
 use crate::engine;
-use crate::forger::{self, Draft};
+use crate::habits::{draw_habits, Habit, Plan, PLANS};
 use crate::votes::{state_in, Script, State, Tick};
 use crate::words::{ballot_of, bit_of, bytes_of, Ballot, Status, Value};
 use std::cmp::Reverse;
-
-/// What arrives at one tick. The last four bring ballots of the head's own phase, just enough for a
-/// step or nearly so: those of its camp first, of the most common value, of blanks and the least
-/// common value, or of all values in turn.
-#[derive(Clone, Copy)]
-enum Plan {
-    Nothing,
-    Present { lost: usize },
-    Old,
-    Ahead { most: usize },
-    Any,
-    Camp,
-    Common,
-    Doubt,
-    InTurn,
-}
-
-/// What a head mostly hears at odd and at even phases, and how seldom it is ticked. Some pairs make
-/// trouble: with (Common, Doubt) a head takes the bit of a majority and does not decide on it.
-#[derive(Clone, Copy)]
-struct Habit {
-    odd: Plan,
-    even: Plan,
-    seldom: usize,
-}
-
-const HABITS: [Habit; 9] = [
-    Habit { odd: Plan::Common, even: Plan::Doubt, seldom: 1 },
-    Habit { odd: Plan::Common, even: Plan::Doubt, seldom: 3 },
-    Habit { odd: Plan::InTurn, even: Plan::Doubt, seldom: 1 },
-    Habit { odd: Plan::InTurn, even: Plan::Doubt, seldom: 3 },
-    Habit { odd: Plan::Common, even: Plan::Common, seldom: 1 },
-    Habit { odd: Plan::Common, even: Plan::Common, seldom: 30 },
-    Habit { odd: Plan::Ahead { most: 1 }, even: Plan::Common, seldom: 6 },
-    Habit { odd: Plan::Common, even: Plan::Ahead { most: 1 }, seldom: 3 },
-    Habit { odd: Plan::Camp, even: Plan::Camp, seldom: 2 },
-];
-
-/// Habits that go ill together. Most heads take a bit and do not decide on it, some are blank. In
-/// the first plot a head that hears more decides alone, and then hears of higher phases where
-/// nobody has decided. In the second one comes late and decides at a phase that all others have
-/// left.
-const PLOTS: [[usize; 4]; 2] = [[0, 0, 2, 6], [0, 0, 2, 5]];
-
-const PLANS: [Plan; 12] = [
-    Plan::Nothing,
-    Plan::Present { lost: 1 },
-    Plan::Present { lost: 4 },
-    Plan::Old,
-    Plan::Ahead { most: 1 },
-    Plan::Ahead { most: 64 },
-    Plan::Any,
-    Plan::Camp,
-    Plan::Camp,
-    Plan::Common,
-    Plan::Doubt,
-    Plan::InTurn,
-];
 
 struct Adversary<'a> {
     chance: &'a mut Chance,
@@ -121,60 +64,6 @@ fn camps(chance: &mut Chance, n: usize) -> Vec<u32> {
     let mut camp: Vec<u32> = (0..n).map(|head| if head < first { bit } else { 1 - bit }).collect();
     chance.shuffle(&mut camp);
     camp
-}
-
-fn draw_habits(chance: &mut Chance, n: usize) -> Vec<Habit> {
-    let few: [Habit; 4] = match chance.below(4) {
-        0 => return parted_habits(chance, n),
-        1 | 2 => chance.of(&PLOTS).map(|place| HABITS[place]),
-        _ => std::array::from_fn(|_| chance.of(&HABITS)),
-    };
-    (0..n).map(|_| chance.of(&few)).collect()
-}
-
-/// About half of the heads take a bit at odd phases and the others become blank, so that at the
-/// even phase a majority is just missed or just made. Some heads hear the bit there, others the
-/// blanks.
-fn parted_habits(chance: &mut Chance, n: usize) -> Vec<Habit> {
-    let with_bit = n / 2 + chance.below(3);
-    let mut habits: Vec<Habit> = Vec::new();
-    for head in 0..n {
-        let odd = if head + 1 < with_bit { Plan::Common } else { Plan::InTurn };
-        let even = chance.of(&[Plan::Common, Plan::Doubt, Plan::Doubt]);
-        habits.push(Habit { odd, even, seldom: 1 });
-    }
-    chance.shuffle(&mut habits);
-    habits
-}
-
-/// One head that is started and then hears lists which may be forged. Not honest: demand 2 only.
-pub fn invent_forged(chance: &mut Chance, most: usize) -> Script {
-    let n = chance.of(&[2, 3, 3, 4, 5, 6, 7, 31, 32]) as usize;
-    let proposals = (0..n).map(|_| chance.bit()).collect();
-    let mut script = Script { honest: false, first_phase: 1, proposals, ticks: Vec::new() };
-    let receiver = chance.below(n);
-    let mut record = script.first_record(receiver);
-    for _ in 0..most.min(chance.between(4, 40) as usize) {
-        let head = Draft::of(&record);
-        let mut list = forger::draw_list(chance, &head);
-        list.retain(|ballot| !far(ballot, &head));
-        if chance.one_in(4) {
-            let kind = 2 + chance.below(forger::FORGERIES - 2);
-            forger::forge(chance, &head, &mut list, kind);
-        }
-        let list = forger::finish(chance, list);
-        let coin = chance.bit();
-        engine::tick(&mut record, &list.concat(), coin);
-        let list = list.iter().filter_map(|bytes| ballot_of(bytes)).collect();
-        script.ticks.push(Tick { receiver, list, coin });
-    }
-    script
-}
-
-/// Keeps most forged heads away from the last phase, where nothing happens any more.
-fn far(ballot: &[u8; 5], head: &Draft) -> bool {
-    let phase = ballot[3] as u32 * 256 + ballot[4] as u32;
-    phase > head.phase + 300 && head.phase % 8 != 0
 }
 
 impl Adversary<'_> {

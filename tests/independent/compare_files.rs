@@ -4,10 +4,10 @@ use crate::bench;
 use crate::chance::Chance;
 use crate::damage::Case;
 use crate::edges;
+use crate::file_tally::FileTally;
 use crate::files;
 use crate::program::{Printed, Program};
 use crate::shrink_file::shortest;
-use crate::tally::FileTally;
 
 pub struct Order {
     pub verbose: bool,

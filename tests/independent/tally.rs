@@ -1,91 +1,76 @@
-//! What the compared files hold, to see whether every corner was visited.
+//! What the compared calls and votes were, to see how far the adversary came.
 
-use crate::bench::{self, Heads};
-use crate::runfile::{self, Round, RunFile};
+use crate::pipe::{Answer, Call, Entry};
+use crate::votes::{state_in, Asked, Script, State};
 
+/// `numbers` has the answers of each entry by number.
 #[derive(Default)]
-pub struct FileTally {
-    pub files: usize,
-    refused: [usize; 16],
-    sound: usize,
-    rounds: usize,
-    good: usize,
-    at_bound: usize,
-    over_bound: usize,
-    own_lost: usize,
-    copied: usize,
+pub struct Tally {
+    pub ticks: usize,
+    pub votes: usize,
+    forged: usize,
+    numbers: [[usize; 12]; 3],
+    undecided_votes: usize,
+    decided_votes: [usize; 2],
+    decisions: usize,
     put_back: usize,
-    coins_taken: usize,
-    last_blank: usize,
-    last_decided: [usize; 2],
-    last_unlike: usize,
+    behind: usize,
+    against: usize,
 }
 
-impl FileTally {
-    pub fn count(&mut self, file: &[u8]) {
-        self.files += 1;
-        match runfile::read(file) {
-            Ok(run) => self.count_run(&run),
-            Err(refusal) => self.refused[refusal.number as usize] += 1,
-        }
+impl Tally {
+    pub fn count(&mut self, call: &Call, answer: &Answer) {
+        self.numbers[call.entry as usize][answer.number as usize] += 1;
+        self.ticks += (call.entry == Entry::Tick) as usize;
     }
 
-    fn count_run(&mut self, run: &RunFile) {
-        self.sound += 1;
-        let bound = bench::bound(run);
-        let mut heads = bench::start(run);
-        for round in &run.rounds {
-            let after = bench::after(&heads, round);
-            self.rounds += 1;
-            self.good += bench::is_good(run, round) as usize;
-            self.at_bound += (round.lost.len() == bound) as usize;
-            self.over_bound += (round.lost.len() == bound + 1) as usize;
-            self.own_lost += round.lost.iter().filter(|pair| pair.0 == pair.1).count();
-            self.count_moves(&heads, &after);
-            self.count_coins(&heads, &after, round);
-            heads = after;
+    /// A vote without a difference: how far did the adversary come?
+    pub fn count_vote(&mut self, script: &Script, asked: &[Asked]) {
+        if !script.honest {
+            self.forged += 1;
+            return;
         }
-        for head in &heads {
-            self.last_blank += (head[4] == 2) as usize;
-            self.last_unlike += (head[5] == 0 && head[6] != 2) as usize;
-            if head[5] == 1 {
-                self.last_decided[head[6] as usize] += 1;
+        self.votes += 1;
+        let mut first = None;
+        for (before, after) in asked.iter().filter_map(moved) {
+            if before.3 == 2 && after.3 != 2 {
+                self.decisions += 1;
+                let (phase, _) = *first.get_or_insert((after.0, after.3));
+                self.behind += (after.0 < phase) as usize;
             }
+            self.put_back += (before.2 == 1 && after.2 == 0) as usize;
+            let decision = first.map(|(_, decision)| decision);
+            self.against += decision.is_some_and(|bit| after.1 + bit == 1) as usize;
         }
-    }
-
-    fn count_moves(&mut self, heads: &Heads, after: &Heads) {
-        for (old, new) in heads.iter().zip(after) {
-            let phase = |head: &[u8]| 256 * head[2] as usize + head[3] as usize;
-            self.copied += (phase(new) > phase(old) + 1) as usize;
-            self.put_back += (old[5] == 1 && new[5] == 0) as usize;
+        match first {
+            Some((_, decision)) => self.decided_votes[decision as usize] += 1,
+            None => self.undecided_votes += 1,
         }
-    }
-
-    /// A coin was taken where the other coin makes another head.
-    fn count_coins(&mut self, heads: &Heads, after: &Heads, round: &Round) {
-        let coins = round.coins.iter().map(|coin| 1 - coin).collect();
-        let other = bench::after(heads, &Round { coins, lost: round.lost.clone() });
-        self.coins_taken += after.iter().zip(&other).filter(|(one, two)| one != two).count();
     }
 
     pub fn print(&self) {
-        let [r12, r13, r14, r15] = [12, 13, 14, 15].map(|number: usize| self.refused[number]);
-        println!("files refused: 12 {r12}, 13 {r13}, 14 {r14}, 15 {r15}; sound {}", self.sound);
+        println!("number    start     tick   ballot");
+        for number in 0..12 {
+            let [start, tick, ballot] = [0, 1, 2].map(|entry: usize| self.numbers[entry][number]);
+            println!("{number:6} {start:8} {tick:8} {ballot:8}");
+        }
+        let [zeros, ones] = self.decided_votes;
+        println!("heads with forged lists {}, honest votes {}", self.forged, self.votes);
+        println!("votes that decide 0 {zeros}, 1 {ones}, nothing {}", self.undecided_votes);
         println!(
-            "rounds {}, good {}, with as many losses as the bound {}, with one more {}",
-            self.rounds, self.good, self.at_bound, self.over_bound
+            "decisions written {}, of them at a lower phase than the vote's first {}",
+            self.decisions, self.behind
         );
-        println!("own ballots lost {}, coins taken {}", self.own_lost, self.coins_taken);
         println!(
-            "heads that rose by two phases or more {}, heads put back to undecided {}",
-            self.copied, self.put_back
+            "heads put back to undecided {}, heads that take the other bit after a decision {}",
+            self.put_back, self.against
         );
-        let [zeros, ones] = self.last_decided;
-        println!(
-            "heads at the end: decided 0 {zeros}, decided 1 {ones}, blank {}",
-            self.last_blank
-        );
-        println!("heads at the end that are undecided with a decision {}", self.last_unlike);
     }
+}
+
+/// State before and after a tick that changed it.
+fn moved(asked: &Asked) -> Option<(State, State)> {
+    asked.tick?;
+    let (before, after) = (state_in(&asked.call.record), state_in(&asked.expected.record));
+    (before != after).then_some((before, after))
 }
