@@ -4,8 +4,6 @@
  */
 #include "inputs.h"
 
-enum { ZERO, ONE, BLANK, NONE = 2, UNDECIDED = 0, DECIDED = 1 };
-
 struct input inputs[INPUTS_MOST];
 static size_t made;
 
@@ -37,7 +35,7 @@ static void add(struct input *input, uint32_t sender, uint8_t value, uint8_t sta
     to[2] = status;
     to[3] = (uint8_t)(phase >> 8);
     to[4] = (uint8_t)phase;
-    input->length += 5;
+    input->length += BALLOT_BYTES;
 }
 
 /* Ballots of the senders from `first` to before `end`. */

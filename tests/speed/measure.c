@@ -9,17 +9,27 @@
  */
 #include "engine.h"
 #include "inputs.h"
+#include "median.h"
 #include "vote.h"
 
 int printf(const char *format, ...);
 int memcmp(const void *a, const void *b, size_t length);
-void qsort(void *at, size_t count, size_t size, int (*order)(const void *, const void *));
 struct time {
     long seconds, nanoseconds;
 };
 int clock_gettime(int clock, struct time *now);
 
 enum { PROCESSOR_TIME = 2, SAMPLES = 401, ROUNDS = 16, SAMPLE_NANOSECONDS = 100000 };
+
+/* The functions of vote.h, of the archive or of engine.c. */
+struct engine {
+    uint32_t (*start)(uint8_t *record, size_t record_len, uint32_t n, uint32_t own,
+                      uint32_t proposal);
+    uint32_t (*tick)(uint8_t *record, size_t record_len, const uint8_t *ballots,
+                     size_t ballots_len, uint32_t coin);
+    uint32_t (*ballot)(const uint8_t *record, size_t record_len, uint8_t *ballot,
+                       size_t ballot_len);
+};
 
 static const struct engine ours = { vote_start, vote_tick, vote_ballot };
 static const struct engine quick = { quick_start, quick_tick, quick_ballot };
@@ -31,7 +41,6 @@ typedef void work(const struct engine *engine, const void *with, long times);
 static volatile uint32_t answer;
 
 static double now(void);
-static int by_size(const void *a, const void *b);
 static void measure(const char *name, work *work, const void *with);
 static void measure_growth(void);
 
@@ -172,12 +181,6 @@ static double now(void)
     return (double)time.seconds * 1e9 + (double)time.nanoseconds;
 }
 
-static int by_size(const void *a, const void *b)
-{
-    const double *x = a, *y = b;
-    return (*x > *y) - (*x < *y);
-}
-
 static double sample(work *work, const struct engine *engine, const void *with, long times)
 {
     const double began = now();
@@ -194,12 +197,6 @@ static long times_for(work *work, const void *with)
     return times;
 }
 
-static double median(double *took)
-{
-    qsort(took, SAMPLES, sizeof took[0], by_size);
-    return took[SAMPLES / 2];
-}
-
 static void print(const char *name, double of_ours, double of_quick)
 {
     printf("%-42s %10.1f %10.1f %7.2f\n", name, of_ours, of_quick, of_ours / of_quick);
@@ -214,7 +211,7 @@ static void measure(const char *name, work *work, const void *with)
         of_ours[i] = sample(work, &ours, with, times);
         of_quick[i] = sample(work, &quick, with, times);
     }
-    print(name, median(of_ours), median(of_quick));
+    print(name, median(of_ours, SAMPLES), median(of_quick, SAMPLES));
 }
 
 /* The three sizes alternate too, since their times are divided by each other. */
@@ -232,8 +229,8 @@ static void measure_growth(void)
             of_quick[size][i] = sample(vote, &quick, &sizes[size], 1);
         }
     for (size = 0; size < 3; size++) {
-        a[size] = median(of_ours[size]);
-        b[size] = median(of_quick[size]);
+        a[size] = median(of_ours[size], SAMPLES);
+        b[size] = median(of_quick[size], SAMPLES);
         print(names[size], a[size], b[size]);
     }
     printf("%-42s %10.1f %10.1f\n", "growth from 8 to 16 heads, times", a[1] / a[0], b[1] / b[0]);

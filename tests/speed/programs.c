@@ -8,13 +8,11 @@
  * that of the clock has other programs' time in it. EMPTY is an empty file: what a program takes on
  * it is its start, and each other figure is given whole and without it.
  */
-#include <stddef.h>
-#include <stdint.h>
+#include "median.h"
 
 int printf(const char *format, ...);
 int atoi(const char *digits);
 int strcmp(const char *a, const char *b);
-void qsort(void *at, size_t count, size_t size, int (*order)(const void *, const void *));
 int open(const char *path, int flags, ...);
 int dup2(int from, int to);
 int fork(void);
@@ -34,12 +32,6 @@ enum { RUNS_MOST = 1001, FILES_MOST = 8, WORDS_MOST = 16 };
 
 static char *words[WORDS_MOST];
 static size_t starter_words;
-
-static int by_size(const void *a, const void *b)
-{
-    const double *x = a, *y = b;
-    return (*x > *y) - (*x < *y);
-}
 
 _Noreturn static void become(const char *file)
 {
@@ -86,12 +78,6 @@ static int run_all(int runs, char *const programs[2], char *const files[], int c
     return 1;
 }
 
-static double median(double *of, int runs)
-{
-    qsort(of, (size_t)runs, sizeof of[0], by_size);
-    return of[runs / 2];
-}
-
 static const char *last_part(const char *path)
 {
     const char *part = path;
@@ -111,7 +97,8 @@ static void print_all(int runs, char *const files[], int count)
     double start[2];
     printf("%-42s %10s %10s %7s\n", "microseconds", "ours", "C", "ratio");
     for (int file = 0; file < count; file++) {
-        const double of_ours = median(took[file][0], runs), of_c = median(took[file][1], runs);
+        const double of_ours = median(took[file][0], (size_t)runs);
+        const double of_c = median(took[file][1], (size_t)runs);
         print(last_part(files[file]), of_ours, of_c);
         if (file == 0) {
             start[0] = of_ours;

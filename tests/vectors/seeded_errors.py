@@ -45,7 +45,8 @@ ERRORS = [
     ("ballots counted within a list, for a value",
      "return len({s for s, v in self.heard if v == wanted})",
      "return len([b for b in self.ballots if b.phase == self.phase and b.value == wanted]) + "
-     "len([1 for s, v in self.heard if v == wanted and s not in {b.sender for b in self.ballots if b.phase == self.phase}])"),
+     "len([1 for s, v in self.heard if v == wanted and "
+     "s not in {b.sender for b in self.ballots if b.phase == self.phase}])"),
     ("decided treated as lasting",
      "            self.status = giver.status\n",
      "            self.status = DECIDED if self.head.status == DECIDED else giver.status\n"),
