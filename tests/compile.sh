@@ -1,4 +1,4 @@
-# Sourced after tools/kit.sh by tests in C: compiles with the kit's compiler and links with its linker.
+# Sourced after tools/kit.sh by tests in C: compiles with the kit's compiler, links with its linker.
 
 # Compiles C files and links them to the archive: the program $work/NAME.
 build_program() { # NAME FILE.c..
@@ -21,7 +21,8 @@ compile() { # FILE.c OBJECT WORDS..
         -std=c99 -Wall -Wextra -Werror -c "$file" -o "$work/$object"
 }
 
-# Links objects of the work folder, and an archive if one is named by its path: the program $work/NAME.
+# Links objects of the work folder, and an archive if one is named by its path: the program
+# $work/NAME.
 link() { # NAME OBJECT..
     local words=() word program=$1
     shift

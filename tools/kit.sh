@@ -28,8 +28,8 @@ start() { # PROGRAM WORDS..
     "${starter[@]}" "$@"
 }
 
-# Proves the program of a crate and builds it: target/bin/NAME. Where nothing has changed, that takes
-# a moment.
+# Proves the program of a crate and builds it: target/bin/NAME. Where nothing has changed, that
+# takes a moment.
 build_crate() { # NAME
     quietly "building the program $1" rt check "$1" </dev/null
     [ -x "target/bin/$1" ] || fail "rt check $1 left no target/bin/$1"

@@ -1,4 +1,4 @@
-# Sourced by the scripts here, after tests/compile.sh: compiles C as the kit compiles what it builds.
+# Sourced after tests/compile.sh: compiles C as the kit compiles what it builds.
 
 # The words that the kit compiles an archive with; a program has -fPIE for -fPIC. There is no way to
 # ask rt for them: they were read off the processes that `rt staticlib` starts.

@@ -5,6 +5,7 @@ from words import blank, d, none, u
 
 
 def cases():
+    section("Chains: the head given back goes into the next line")
     over_half_propose_one_bit()
     coins_heal_a_split()
     two_heads()
@@ -16,7 +17,6 @@ def cases():
 
 
 def over_half_propose_one_bit():
-    section("Chains: the head given back goes into the next line")
     note("""Over half propose one bit and the first ticks are two rounds that lose nothing: every head
             decides that bit in them.  n 3, proposals 1 1 0.""")
     heads = [S(3, own, proposal, 0) for own, proposal in enumerate((1, 1, 0))]
