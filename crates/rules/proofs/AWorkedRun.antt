@@ -1,7 +1,6 @@
 -- Demand 3 at short runs, computed: under a wrong rule the demand's own statement is false at one of them. They are
 -- document 01's rounds, and so runs (WorkedRunsAreRuns). The prover takes the files by name: this one and AWorkedTick stand
--- first, so that a wrong rule is refused here, before the lemmas that no longer fit. When they were written, the edits
--- demand2_.. and demand3_.. were; the gate checks only that an edit is refused.
+-- first, so that a wrong rule is refused here, before the lemmas that no longer fit (tests/edits checks where).
 use Prim.Native.Nat.{ℕ, _<_}
 use mathlib.Core.Path.{_≡_, refl, sym, _∙_}
 use mathlib.Core.List.{List, [], _∷_, _++_}
