@@ -19,7 +19,7 @@ fits : (file : List ℕ) (room : ℕ) (plan : Plan) → KeepsEveryRule file room
 fits file room plan (inl a) =
     let least : plan .n ≤ 32 = omega (arith, a .heads) in
     let products = mul-le-mul (a .rounds) least in
-    (a .enough, record { heads = least; need = a .some; rounds = a .rounds; losses = omega (arith, a .losses, least); coins = omega (arith, a .coins, least, products) })
+    (a .enough, record { heads = least; need = a .atMost; rounds = a .rounds; losses = omega (arith, a .losses, least); coins = omega (arith, a .coins, least, products) })
 fits file room plan (inr r) =
     subst (Fits room) (sym (r .is))
     (omega arith, record { heads = omega arith; need = omega arith; rounds = omega arith; losses = omega arith; coins = omega arith })
