@@ -1,6 +1,6 @@
 // One head of the table at a time, by value: its start, what it shows, its tick in a round.
 ghost use mathlib.Core.Path.{_≡_};
-ghost use Prim.Native.Nat.{_+_, _*_, _/_, _%_, _≤_, _<_};
+ghost use Prim.Native.Nat.{_+_, _*_, _≤_, _<_};
 ghost use lib.ListN.{length, take, drop};
 ghost use lib.Seq.{sets};
 ghost use Rattle.rules.specs.Heard.{member};
@@ -58,12 +58,13 @@ pub(crate) fn note(before: Survey, i: usize, head: Head) -> Survey
 {
     let value = head.value;
     let status = head.status;
+    let phase = head.phase;
     let five = [
         head.own,
         value_code(value),
         status_code(status),
-        high_byte(head.phase),
-        low_byte(head.phase),
+        (phase / 256) as u8,
+        (phase % 256) as u8,
     ];
     let mut ballots = before.ballots;
     copy_ballot(&mut ballots, i * 5, &five, 0);
@@ -156,17 +157,4 @@ fn kept_bytes(lost: bool) -> usize
     ensures { λ r. ⌜ r ≡ keptBytes lost ⌝ }
 {
     if lost { 0 } else { 5 }
-}
-
-// "phase, high byte first"
-fn high_byte(phase: u16) -> u8
-    ensures { λ r. ⌜ r ≡ phase / 256 ⌝ }
-{
-    (phase / 256) as u8
-}
-
-fn low_byte(phase: u16) -> u8
-    ensures { λ r. ⌜ r ≡ phase % 256 ⌝ }
-{
-    (phase % 256) as u8
 }
