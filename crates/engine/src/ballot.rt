@@ -57,6 +57,7 @@ pub(crate) fn breaks_of_class(n: u32, class: Class, ballots: &[u8], i: usize) ->
     !((wide(ballots[at]) < n) & allowed(class, ballots[at + 1], ballots[at + 2]))
 }
 
+// A function of its own: that a byte is below 256 is known of a parameter, not of a slice's element.
 fn wide(byte: u8) -> u32
     ensures { λ r. ⌜ r ≡ byte ⌝ }
 {

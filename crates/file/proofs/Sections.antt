@@ -43,8 +43,8 @@ module _ (file : List ℕ) (start size : ℕ) where
   body-at i h = getD-take size (drop start file) i 0 h ∙ getD-drop start file i 0
 
   -- and so is a row
-  word-at : (i : ℕ) → i + 3 < size → fourBytesAt (bodyOf file (Body start size)) i ≡ fourBytesAt file (start + i)
-  word-at i h =
+  four-bytes-at : (i : ℕ) → i + 3 < size → fourBytesAt (bodyOf file (Body start size)) i ≡ fourBytesAt file (start + i)
+  four-bytes-at i h =
       rw (body-at i (omega arith), body-at (i + 1) (omega arith), body-at (i + 2) (omega arith), body-at (i + 3) (omega arith))
       (rw (next 1, next 2, next 3) refl)
     where
@@ -214,7 +214,7 @@ module _ (file : List ℕ) where
         sized = refl;
         whole = omega arith;
         piece = λ i h.
-            subst (λ (x : ℕ). Means (not (not (within n x))) (LossRow n file (count + 2 + i * 4))) (sym (word-at file (count + 2) (countAt file count * n * 4) (i * 4) (omega (arith, h))))
+            subst (λ (x : ℕ). Means (not (not (within n x))) (LossRow n file (count + 2 + i * 4))) (sym (four-bytes-at file (count + 2) (countAt file count * n * 4) (i * 4) (omega (arith, h))))
             (means-twice (means-within n (fourBytesAt file (count + 2 + i * 4))));
       }
 
