@@ -1,33 +1,33 @@
 -- The numbers that a list of ballots gives, among all numbers of a tick.
 use Prim.Native.Nat.{ℕ, _+_, _≤_, _<_}
 use mathlib.Core.Path.{_≡_, refl, sym, ap, _∙_}
-use mathlib.Core.List.{List, [], _∷_}
+use mathlib.Core.List.{List}
 use mathlib.Core.Bool.{Bool, true, false, cond, not}
 use native.Mathlib.Omega.{arith}
 use lib.Dec.{ltb, eqb}
 use borrow.Author.Tests.{ne-eqb, le-leb, lt-leb}
 use Rattle.rules.specs.declared.Head.{Head}
 use Rattle.rules.specs.declared.Ticked.{Ticked}
-use Rattle.rules.specs.Number.{_when_, firstThatApplies}
+use Rattle.rules.specs.Number.{firstThatApplies}
 use Rattle.rules.specs.Below.{some}
 use Rattle.rules.specs.Ballot.{ballotAt, breaksRule}
 use Rattle.rules.specs.Head.{sound}
 use Rattle.rules.specs.Tick.{ballots, gathered, stepped, notList, ownOtherwise, contradicts, bothHeard, phasesEnd, decidesOtherwise, quorum, risen, settled, tickNumber, tickOf}
-use Rattle.engine.specs.Look.{listNumber, listened}
+use Rattle.engine.specs.Look.{listNumber, listened, endNumber, ended}
 
 -- none applies, and this is the head after steps 1 and 2
 pub list-accepted : (h : Head) (l : List ℕ) (g : Head) → listNumber h l ≡ 0 → g ≡ gathered h l → _≡_ {A = Ticked} (record { number = 0; head = g }) (listened h l)
 unfolding listened
 list-accepted h l g e q = simp (e, q)
 
-pub record Clear (h : Head) (l : List ℕ) (r : Ticked) : Type 0 where
-  pub stands : some (ballots l) (breaksRule (h .n) l) ≡ false
-  pub own : some (ballots l) (λ i. ownOtherwise h (ballotAt l i)) ≡ false
-  pub once : some (ballots l) (contradicts h l) ≡ false
-  pub heard : r .head ≡ gathered h l
+record Clear (h : Head) (l : List ℕ) (r : Ticked) : Type 0 where
+  stands : some (ballots l) (breaksRule (h .n) l) ≡ false
+  own : some (ballots l) (λ i. ownOtherwise h (ballotAt l i)) ≡ false
+  once : some (ballots l) (contradicts h l) ≡ false
+  heard : r .head ≡ gathered h l
 
 -- what 0 shows
-pub list-clear : (h : Head) (l : List ℕ) (r : Ticked) → r ≡ listened h l → r .number ≡ 0 → Clear h l r
+list-clear : (h : Head) (l : List ℕ) (r : Ticked) → r ≡ listened h l → r .number ≡ 0 → Clear h l r
 unfolding listened listNumber firstThatApplies
 list-clear h l r e z =
     let number : listNumber h l ≡ 0 = sym (ap (λ (t : Ticked). t .number) e) ∙ z in
@@ -45,21 +45,12 @@ list-clear h l r e z =
     none false false true q = absurd (omega arith)
     none false false false q = (refl, refl, refl)
 
--- the numbers after those
-abbrev after : Head → List ℕ → ℕ → ℕ
-after h l coin =
-    firstThatApplies
-    ((9 when bothHeard (gathered h l))
-    ∷ (10 when phasesEnd (gathered h l))
-    ∷ (11 when decidesOtherwise (stepped (gathered h l) coin))
-    ∷ [])
-
 -- another number is the tick's where 3 to 5 do not apply
 pub list-refused : (h : Head) (l : List ℕ) (coin : ℕ) (r : Ticked) → sound h ≡ true → ltb 1 coin ≡ false → notList l ≡ false → r ≡ listened h l → (r .number ≡ 0 → ⊥) → _≡_ {A = Ticked} (record { number = r .number; head = h }) (tickOf h l coin)
-unfolding tickOf tickNumber listened listNumber firstThatApplies
+unfolding tickOf tickNumber listened listNumber endNumber firstThatApplies
 list-refused h l coin r s t u e n =
     let list : r .number ≡ listNumber h l = ap (λ (t : Ticked). t .number) e in
-    let number : r .number ≡ tickNumber h l coin = list ∙ same (some (ballots l) (breaksRule (h .n) l)) (some (ballots l) (λ i. ownOtherwise h (ballotAt l i))) (some (ballots l) (contradicts h l)) (after h l coin) (λ z. n (list ∙ z)) ∙ sym (simp (s, t, u)) in
+    let number : r .number ≡ tickNumber h l coin = list ∙ same (some (ballots l) (breaksRule (h .n) l)) (some (ballots l) (λ i. ownOtherwise h (ballotAt l i))) (some (ballots l) (contradicts h l)) (endNumber (gathered h l) coin) (λ z. n (list ∙ z)) ∙ sym (simp (s, t, u)) in
     simp (← number, ne-eqb (r .number) 0 n)
   where
     same : (a b c : Bool) (later : ℕ) → (_≡_ {A = ℕ} (cond a 6 (cond b 7 (cond c 8 0))) 0 → ⊥) → _≡_ {A = ℕ} (cond a 6 (cond b 7 (cond c 8 0))) (cond a 6 (cond b 7 (cond c 8 later)))
@@ -69,27 +60,26 @@ list-refused h l coin r s t u e n =
     same false false false later m = absurd (m refl)
 
 -- where 3 to 8 do not apply, a tick goes on with the head after steps 1 and 2
-pub record Listened (h : Head) (l : List ℕ) (coin : ℕ) (r : Ticked) : Type 0 where
-  pub whole : sound h ≡ true
-  pub bit : ltb 1 coin ≡ false
-  pub list : notList l ≡ false
-  pub clear : Clear h l r
+pub list-heard : (h : Head) (l : List ℕ) (coin : ℕ) (r : Ticked) → sound h ≡ true → ltb 1 coin ≡ false → notList l ≡ false → r ≡ listened h l → r .number ≡ 0 → ended h (r .head) coin ≡ tickOf h l coin
+unfolding tickOf tickNumber ended endNumber firstThatApplies
+list-heard h l coin r s t u e z =
+    let clear = list-clear h l r e z in
+    simp (s, t, u, clear .stands, clear .own, clear .once, ← clear .heard)
 
-pub ends-9 : (h : Head) (l : List ℕ) (coin : ℕ) (r : Ticked) → Listened h l coin r → bothHeard (r .head) ≡ true → _≡_ {A = Ticked} (record { number = 9; head = h }) (tickOf h l coin)
-unfolding tickOf tickNumber firstThatApplies
-ends-9 h l coin r p q =
-    simp (p .whole, p .bit, p .list, p .clear .stands, p .clear .own, p .clear .once, ← p .clear .heard, q)
+-- ---- what is left of it
 
-pub ends-10 : (h : Head) (l : List ℕ) (coin : ℕ) (r : Ticked) → Listened h l coin r → bothHeard (r .head) ≡ false → phasesEnd (r .head) ≡ true → _≡_ {A = Ticked} (record { number = 10; head = h }) (tickOf h l coin)
-unfolding tickOf tickNumber firstThatApplies
-ends-10 h l coin r p q w =
-    simp (p .whole, p .bit, p .list, p .clear .stands, p .clear .own, p .clear .once, ← p .clear .heard, q, w)
+pub ends-9 : (h g : Head) (coin : ℕ) → bothHeard g ≡ true → _≡_ {A = Ticked} (record { number = 9; head = h }) (ended h g coin)
+unfolding ended endNumber firstThatApplies
+ends-9 h g coin q = simp q
 
-pub ends : (h : Head) (l : List ℕ) (coin : ℕ) (r : Ticked) (x : Head) → Listened h l coin r → bothHeard (r .head) ≡ false → (phasesEnd (r .head) ≡ false) × (x ≡ stepped (r .head) coin)
-    → cond (decidesOtherwise x) (record { number = 11; head = h }) (record { number = 0; head = settled x }) ≡ tickOf h l coin
-unfolding tickOf tickNumber firstThatApplies
-ends h l coin r x p q w =
-    simp (p .whole, p .bit, p .list, p .clear .stands, p .clear .own, p .clear .once, ← p .clear .heard, q, w .0, ← w .1, go (decidesOtherwise x))
+pub ends-10 : (h g : Head) (coin : ℕ) → bothHeard g ≡ false → phasesEnd g ≡ true → _≡_ {A = Ticked} (record { number = 10; head = h }) (ended h g coin)
+unfolding ended endNumber firstThatApplies
+ends-10 h g coin q w = simp (q, w)
+
+pub ends : (h g : Head) (coin : ℕ) (x : Head) → bothHeard g ≡ false → (phasesEnd g ≡ false) × (x ≡ stepped g coin)
+    → cond (decidesOtherwise x) (record { number = 11; head = h }) (record { number = 0; head = settled x }) ≡ ended h g coin
+unfolding ended endNumber firstThatApplies
+ends h g coin x q w = simp (q, w .0, ← w .1, go (decidesOtherwise x))
   where
     go : (t : Bool) → _≡_ {A = Ticked} (cond t (record { number = 11; head = h }) (record { number = 0; head = settled x })) (record { number = cond t 11 0; head = cond (eqb (cond t 11 0) 0) (settled x) h })
     go true = refl

@@ -1,4 +1,5 @@
--- What the functions of `engine` hand to one another when a list of ballots is looked at once.
+-- What the functions of `engine` hand to one another: a tick's answer in two parts, and what one look at a list of ballots
+-- shows.
 use Prim.Native.Nat.{ℕ, zero, suc}
 use mathlib.Core.List.{List, [], _∷_}
 use mathlib.Core.Bool.{Bool, true, false, cond, _&&_, _||_, not}
@@ -12,7 +13,7 @@ use Rattle.rules.specs.Below.{some}
 use Rattle.rules.specs.Ballot.{valueCode, statusCode, ballotAt, breaksRule}
 use Rattle.rules.specs.Heard.{member, setOf, apart}
 use Rattle.rules.specs.Head.{standsUnder}
-use Rattle.rules.specs.Tick.{ballots, ownOtherwise, contradicts, gathered}
+use Rattle.rules.specs.Tick.{ballots, ownOtherwise, contradicts, gathered, bothHeard, phasesEnd, decidesOtherwise, stepped, settled}
 use Rattle.engine.specs.declared.look.Look.{Look}
 
 -- the numbers that a list of ballots gives: 6 to 8
@@ -27,6 +28,17 @@ listNumber h l =
 -- one of them, or the head after steps 1 and 2
 unfoldable pub listened : Head → List ℕ → Ticked
 listened h l = record { number = listNumber h l; head = cond (eqb (listNumber h l) 0) (gathered h l) h }
+
+-- the numbers after those, of the head after steps 1 and 2: 9 to 11
+unfoldable pub endNumber : Head → ℕ → ℕ
+endNumber g coin =
+    firstThatApplies
+    ((9 when bothHeard g) ∷ (10 when phasesEnd g) ∷ (11 when decidesOtherwise (stepped g coin)) ∷ [])
+
+-- one of them, with the head as it came, or the head after steps 3 and 4
+unfoldable pub ended : Head → Head → ℕ → Ticked
+ended h g coin =
+    record { number = endNumber g coin; head = cond (eqb (endNumber g coin) 0) (settled (stepped g coin)) h }
 
 -- the set of one head
 abbrev pub alone : ℕ → ℕ

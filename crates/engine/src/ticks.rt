@@ -3,7 +3,7 @@ ghost use mathlib.Core.Path.{_≡_};
 ghost use mathlib.Core.Bool.{true, cond};
 ghost use Rattle.rules.specs.Head.{sound as soundOf};
 ghost use Rattle.rules.specs.Tick.{tickOf, notList, bothHeard, decidesOtherwise, settled as settledOf};
-ghost use Rattle.engine.specs.Look.{listened as listenedOf};
+ghost use Rattle.engine.specs.Look.{listened as listenedOf, ended as endedOf};
 use crate::head::decision_is_value;
 use crate::head::is_decided;
 use crate::head::is_written;
@@ -41,20 +41,28 @@ pub fn tick(head: Head, ballots: &[u8], coin: u32) -> Ticked
         return answer(number, head);
     }
     let heard = after.head;
+    ended(head, heard, coin as u8)
+}
+
+// Numbers 9 to 11, of the head after steps 1 and 2; where none of them applies, the head after steps 3
+// and 4.
+fn ended(head: Head, heard: Head, coin: u8) -> Ticked
+    ensures { λ r. ⌜ r ≡ endedOf head heard coin ⌝ }
+{
     if both_heard(heard) {
         return answer(9, head);
     }
     if !quorum(heard) {
-        return ended(head, heard);
+        return closed(head, heard);
     }
     if 65535 <= heard.phase {
         return answer(10, head);
     }
-    ended(head, risen(heard, coin as u8))
+    closed(head, risen(heard, coin))
 }
 
 // Number 11, or step 4.
-fn ended(head: Head, end: Head) -> Ticked
+fn closed(head: Head, end: Head) -> Ticked
     ensures { λ r. ⌜ r ≡ cond (decidesOtherwise end) (record { number = 11; head = head }) (record { number = 0; head = settledOf end }) ⌝ }
 {
     if decides_otherwise(end) {
