@@ -1,2 +1,3 @@
 pub mod Only
 pub mod Whole
+pub mod Entries

@@ -1,14 +1,10 @@
-use borrow.Author.Tests.{eq-eqb, ne-eqb, not-true, not-false}
 use mathlib.Core.Path.{sym, ap, _∙_}
-use lib.ListN.{length}
-use Rattle.rules.specs.declared.Written.{Written}
-use Rattle.rules.specs.Number.{firstThatApplies}
-use Rattle.rules.specs.Head.{sendOf}
-use Rattle.rules.specs.Record.{notSound, sendNumberFromC, bufferAfterSend}
-use Rattle.rules.proofs.Answers.{record-length, send-sound, send-unsound, send-bytes}
-use Rattle.vote.proofs.Whole.{whole}
-use borrow.Author.Needs.{needs}
 use native.Mathlib.Omega.{arith}
+use borrow.Author.Tests.{not-true, not-false}
+use borrow.Author.Needs.{needs}
+use Rattle.rules.proofs.Answers.{record-length}
+use Rattle.vote.proofs.Whole.{whole}
+use Rattle.vote.proofs.Entries.{send-no-record, send-refused, send-other-length, send-writes, send-five}
 use Rattle.vote.proofs.vote_ballot.Statement.{statement}
 use Rattle.vote.proofs.vote_ballot.Tie as tie
 
@@ -22,8 +18,7 @@ same-length : tie.Need-same-length
 same-length c = search needs
 
 returns : tie.Need-returns
-unfolding sendNumberFromC bufferAfterSend notSound firstThatApplies
-returns c = (simp (← c .before .before .before .before .before .is-record .ensures, not-true (c .before .before .before .before .before .is-record .result) (c .before .before .before .before .if1 .taken)), simp (← c .before .before .before .before .before .is-record .ensures, not-true (c .before .before .before .before .before .is-record .result) (c .before .before .before .before .if1 .taken)) (c .before .before .clear .ensures))
+returns c = let done = send-no-record _ _ (sym (c .before .before .before .before .before .is-record .ensures) ∙ not-true (c .before .before .before .before .before .is-record .result) (c .before .before .before .before .if1 .taken)) in (done .0, c .before .before .clear .ensures ∙ done .1)
 
 head-at-requires : tie.Need-head-at-requires
 head-at-requires c κs = record-length _ (sym (c .before .is-record .ensures) ∙ not-false (c .before .is-record .result) (c .if1 .left))
@@ -38,8 +33,7 @@ same-length-2 : tie.Need-same-length-2
 same-length-2 c = search needs
 
 returns-2 : tie.Need-returns-2
-unfolding sendNumberFromC bufferAfterSend notSound firstThatApplies
-returns-2 c = (simp (← c .before .before .before .before .before .before .before .before .before .is-record .ensures, not-false (c .before .before .before .before .before .before .before .before .before .is-record .result) (c .before .before .before .before .before .before .before .before .if1 .left), send-unsound _ (λ z. c .before .before .before .before .if2 .taken (ap (λ (w : Written). w .number) (c .before .before .before .before .before .before .send .ensures ∙ ap sendOf (c .before .before .before .before .before .before .before .head-at .ensures)) ∙ z))), simp (← c .before .before .before .before .before .before .before .before .before .is-record .ensures, not-false (c .before .before .before .before .before .before .before .before .before .is-record .result) (c .before .before .before .before .before .before .before .before .if1 .left), send-unsound _ (λ z. c .before .before .before .before .if2 .taken (ap (λ (w : Written). w .number) (c .before .before .before .before .before .before .send .ensures ∙ ap sendOf (c .before .before .before .before .before .before .before .head-at .ensures)) ∙ z))) (c .before .before .clear2 .ensures))
+returns-2 c = let done = send-refused _ _ _ _ (sym (c .before .before .before .before .before .before .before .before .before .is-record .ensures) ∙ not-false (c .before .before .before .before .before .before .before .before .before .is-record .result) (c .before .before .before .before .before .before .before .before .if1 .left)) (c .before .before .before .before .before .before .before .head-at .ensures) (c .before .before .before .before .before .before .send .ensures) (c .before .before .before .before .if2 .taken) in (done .0, c .before .before .clear2 .ensures ∙ done .1)
 
 clear-requires-3 : tie.Need-clear-requires-3
 clear-requires-3 c κs = search needs
@@ -48,21 +42,21 @@ same-length-3 : tie.Need-same-length-3
 same-length-3 c = search needs
 
 returns-3 : tie.Need-returns-3
-unfolding sendNumberFromC bufferAfterSend notSound firstThatApplies
-returns-3 c = (simp (← c .before .before .before .before .before .before .before .before .before .before .is-record .ensures, not-false (c .before .before .before .before .before .before .before .before .before .before .is-record .result) (c .before .before .before .before .before .before .before .before .before .if1 .left), send-sound _ (sym (ap (λ (w : Written). w .number) (c .before .before .before .before .before .before .before .send .ensures ∙ ap sendOf (c .before .before .before .before .before .before .before .before .head-at .ensures))) ∙ c .before .before .before .before .before .if2 .left), ne-eqb _ _ (c .before .before .before .before .if3 .taken)), simp (← c .before .before .before .before .before .before .before .before .before .before .is-record .ensures, not-false (c .before .before .before .before .before .before .before .before .before .before .is-record .result) (c .before .before .before .before .before .before .before .before .before .if1 .left), send-sound _ (sym (ap (λ (w : Written). w .number) (c .before .before .before .before .before .before .before .send .ensures ∙ ap sendOf (c .before .before .before .before .before .before .before .before .head-at .ensures))) ∙ c .before .before .before .before .before .if2 .left), ne-eqb _ _ (c .before .before .before .before .if3 .taken)) (c .before .before .clear3 .ensures))
+returns-3 c = let done = send-other-length _ _ _ _ (sym (c .before .before .before .before .before .before .before .before .before .before .is-record .ensures) ∙ not-false (c .before .before .before .before .before .before .before .before .before .before .is-record .result) (c .before .before .before .before .before .before .before .before .before .if1 .left)) (c .before .before .before .before .before .before .before .before .head-at .ensures) (c .before .before .before .before .before .before .before .send .ensures) (c .before .before .before .before .before .if2 .left) (c .before .before .before .before .if3 .taken) in (done .0, c .before .before .clear3 .ensures ∙ done .1)
 
 slice-aggregate-copy : tie.Need-slice-aggregate-copy
 slice-aggregate-copy c = search needs
 
 copy-requires : tie.Need-copy-requires
-copy-requires c κs = omega (arith, ap length (ap (λ (w : Written). w .bytes) (c .before .before .before .before .before .before .send .ensures ∙ ap sendOf (c .before .before .before .before .before .before .before .head-at .ensures)) ∙ send-bytes _ (send-sound _ (sym (ap (λ (w : Written). w .number) (c .before .before .before .before .before .before .send .ensures ∙ ap sendOf (c .before .before .before .before .before .before .before .head-at .ensures))) ∙ c .before .before .before .before .if2 .left))))
+copy-requires c κs = omega (arith, send-five _ _ (c .before .before .before .before .before .before .send .ensures) (c .before .before .before .before .if2 .left), c .before .before .before .if3 .left)
 
 same-length-4 : tie.Need-same-length-4
 same-length-4 c = search needs
 
 returns-4 : tie.Need-returns-4
-unfolding sendNumberFromC bufferAfterSend notSound firstThatApplies
-returns-4 c = (simp (← c .before .before .before .before .before .before .before .before .before .before .before .before .is-record .ensures, not-false (c .before .before .before .before .before .before .before .before .before .before .before .before .is-record .result) (c .before .before .before .before .before .before .before .before .before .before .before .if1 .left), send-sound _ (sym (ap (λ (w : Written). w .number) (c .before .before .before .before .before .before .before .before .before .send .ensures ∙ ap sendOf (c .before .before .before .before .before .before .before .before .before .before .head-at .ensures))) ∙ c .before .before .before .before .before .before .before .if2 .left), eq-eqb _ _ (c .before .before .before .before .before .before .if3 .left)), simp (← c .before .before .before .before .before .before .before .before .before .before .before .before .is-record .ensures, not-false (c .before .before .before .before .before .before .before .before .before .before .before .before .is-record .result) (c .before .before .before .before .before .before .before .before .before .before .before .if1 .left), send-sound _ (sym (ap (λ (w : Written). w .number) (c .before .before .before .before .before .before .before .before .before .send .ensures ∙ ap sendOf (c .before .before .before .before .before .before .before .before .before .before .head-at .ensures))) ∙ c .before .before .before .before .before .before .before .if2 .left), eq-eqb _ _ (c .before .before .before .before .before .before .if3 .left)) (c .before .before .copy .ensures .1 ∙ whole _ _ (ap length (ap (λ (w : Written). w .bytes) (c .before .before .before .before .before .before .before .before .before .send .ensures ∙ ap sendOf (c .before .before .before .before .before .before .before .before .before .before .head-at .ensures)) ∙ send-bytes _ (send-sound _ (sym (ap (λ (w : Written). w .number) (c .before .before .before .before .before .before .before .before .before .send .ensures ∙ ap sendOf (c .before .before .before .before .before .before .before .before .before .before .head-at .ensures))) ∙ c .before .before .before .before .before .before .before .if2 .left))) ∙ sym (c .before .before .before .before .before .before .if3 .left)) ∙ (ap (λ (w : Written). w .bytes) (c .before .before .before .before .before .before .before .before .before .send .ensures ∙ ap sendOf (c .before .before .before .before .before .before .before .before .before .before .head-at .ensures)) ∙ send-bytes _ (send-sound _ (sym (ap (λ (w : Written). w .number) (c .before .before .before .before .before .before .before .before .before .send .ensures ∙ ap sendOf (c .before .before .before .before .before .before .before .before .before .before .head-at .ensures))) ∙ c .before .before .before .before .before .before .before .if2 .left)))))
+returns-4 c = let five = send-five _ _ (c .before .before .before .before .before .before .before .before .before .send .ensures) (c .before .before .before .before .before .before .before .if2 .left) in
+    let done = send-writes _ _ _ _ (sym (c .before .before .before .before .before .before .before .before .before .before .before .before .is-record .ensures) ∙ not-false (c .before .before .before .before .before .before .before .before .before .before .before .before .is-record .result) (c .before .before .before .before .before .before .before .before .before .before .before .if1 .left)) (c .before .before .before .before .before .before .before .before .before .before .head-at .ensures) (c .before .before .before .before .before .before .before .before .before .send .ensures) (c .before .before .before .before .before .before .before .if2 .left) (c .before .before .before .before .before .before .if3 .left) in
+    (done .0, c .before .before .copy .ensures .1 ∙ whole _ _ (five ∙ sym (c .before .before .before .before .before .before .if3 .left)) ∙ done .1)
 
 pub vote-ballot-spec : {M : Type 1} → statement M
 vote-ballot-spec =

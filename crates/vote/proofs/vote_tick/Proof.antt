@@ -1,11 +1,8 @@
-use borrow.Author.Tests.{eq-eqb, ne-eqb, not-true, not-false}
-use mathlib.Core.Path.{sym, ap, _∙_}
-use Rattle.rules.specs.declared.Head.{Head}
-use Rattle.rules.specs.declared.Ticked.{Ticked}
-use Rattle.rules.specs.Tick.{tickOf}
-use Rattle.rules.specs.Record.{recordOf, tickNumberFromC, recordAfterTick}
-use Rattle.rules.proofs.Answers.{tick-number, record-length}
+use mathlib.Core.Path.{sym, _∙_}
+use borrow.Author.Tests.{not-true, not-false}
 use borrow.Author.Needs.{needs}
+use Rattle.rules.proofs.Answers.{record-length}
+use Rattle.vote.proofs.Entries.{tick-no-record, tick-refused, tick-stores}
 use Rattle.vote.proofs.vote_tick.Statement.{statement}
 use Rattle.vote.proofs.vote_tick.Tie as tie
 
@@ -16,8 +13,7 @@ same-length : tie.Need-same-length
 same-length c = search needs
 
 returns : tie.Need-returns
-unfolding tickNumberFromC recordAfterTick
-returns c = (simp (← c .before .is-record .ensures, not-true (c .before .is-record .result) (c .if1 .taken)), simp (← c .before .is-record .ensures, not-true (c .before .is-record .result) (c .if1 .taken)))
+returns c = tick-no-record _ _ _ (sym (c .before .is-record .ensures) ∙ not-true (c .before .is-record .result) (c .if1 .taken))
 
 head-at-requires : tie.Need-head-at-requires
 head-at-requires c κs = record-length _ (sym (c .before .before .is-record .ensures) ∙ not-false (c .before .before .is-record .result) (c .before .if1 .left))
@@ -32,8 +28,7 @@ same-length-2 : tie.Need-same-length-2
 same-length-2 c = search needs
 
 returns-2 : tie.Need-returns-2
-unfolding tickNumberFromC recordAfterTick
-returns-2 c = (simp (← c .before .before .before .before .before .before .before .is-record .ensures, not-false (c .before .before .before .before .before .before .before .is-record .result) (c .before .before .before .before .before .before .if1 .left), ← (ap (λ (t : Ticked). t .number) (c .before .before .before .tick .ensures ∙ ap (λ (h : Head). tickOf h (c .before .before .before .before .before .before .before .before .before .before .before .args .ballots .now) (c .before .before .before .before .before .before .before .before .before .before .before .args .coin)) (c .before .before .before .before .head-at .ensures)) ∙ tick-number _ _ _)), simp (← c .before .before .before .before .before .before .before .is-record .ensures, not-false (c .before .before .before .before .before .before .before .is-record .result) (c .before .before .before .before .before .before .if1 .left), ← (ap (λ (t : Ticked). t .number) (c .before .before .before .tick .ensures ∙ ap (λ (h : Head). tickOf h (c .before .before .before .before .before .before .before .before .before .before .before .args .ballots .now) (c .before .before .before .before .before .before .before .before .before .before .before .args .coin)) (c .before .before .before .before .head-at .ensures)) ∙ tick-number _ _ _), ne-eqb _ _ (c .before .if2 .taken)))
+returns-2 c = tick-refused _ _ _ _ _ (sym (c .before .before .before .before .before .before .before .is-record .ensures) ∙ not-false (c .before .before .before .before .before .before .before .is-record .result) (c .before .before .before .before .before .before .if1 .left)) (c .before .before .before .before .head-at .ensures) (c .before .before .before .tick .ensures) (c .before .if2 .taken)
 
 store-requires : tie.Need-store-requires
 store-requires c κs = record-length _ (sym (c .before .before .before .before .before .before .before .before .is-record .ensures) ∙ not-false (c .before .before .before .before .before .before .before .before .is-record .result) (c .before .before .before .before .before .before .before .if1 .left))
@@ -42,8 +37,7 @@ same-length-3 : tie.Need-same-length-3
 same-length-3 c = search needs
 
 returns-3 : tie.Need-returns-3
-unfolding tickNumberFromC recordAfterTick
-returns-3 c = (simp (← c .before .before .before .before .before .before .before .before .before .before .before .is-record .ensures, not-false (c .before .before .before .before .before .before .before .before .before .before .before .is-record .result) (c .before .before .before .before .before .before .before .before .before .before .if1 .left), ← (ap (λ (t : Ticked). t .number) (c .before .before .before .before .before .before .before .tick .ensures ∙ ap (λ (h : Head). tickOf h (c .before .before .before .before .before .before .before .before .before .before .before .before .before .before .before .args .ballots .now) (c .before .before .before .before .before .before .before .before .before .before .before .before .before .before .before .args .coin)) (c .before .before .before .before .before .before .before .before .head-at .ensures)) ∙ tick-number _ _ _)) (sym (c .before .before .before .before .before .if2 .left)), simp (← c .before .before .before .before .before .before .before .before .before .before .before .is-record .ensures, not-false (c .before .before .before .before .before .before .before .before .before .before .before .is-record .result) (c .before .before .before .before .before .before .before .before .before .before .if1 .left), ← (ap (λ (t : Ticked). t .number) (c .before .before .before .before .before .before .before .tick .ensures ∙ ap (λ (h : Head). tickOf h (c .before .before .before .before .before .before .before .before .before .before .before .before .before .before .before .args .ballots .now) (c .before .before .before .before .before .before .before .before .before .before .before .before .before .before .before .args .coin)) (c .before .before .before .before .before .before .before .before .head-at .ensures)) ∙ tick-number _ _ _), eq-eqb _ _ (c .before .before .before .before .before .if2 .left)) (c .before .before .store .ensures ∙ ap (λ (t : Ticked). recordOf (t .head)) (c .before .before .before .before .before .before .before .tick .ensures ∙ ap (λ (h : Head). tickOf h (c .before .before .before .before .before .before .before .before .before .before .before .before .before .before .before .args .ballots .now) (c .before .before .before .before .before .before .before .before .before .before .before .before .before .before .before .args .coin)) (c .before .before .before .before .before .before .before .before .head-at .ensures))))
+returns-3 c = let done = tick-stores _ _ _ _ _ (sym (c .before .before .before .before .before .before .before .before .before .before .before .is-record .ensures) ∙ not-false (c .before .before .before .before .before .before .before .before .before .before .before .is-record .result) (c .before .before .before .before .before .before .before .before .before .before .if1 .left)) (c .before .before .before .before .before .before .before .before .head-at .ensures) (c .before .before .before .before .before .before .before .tick .ensures) (c .before .before .before .before .before .if2 .left) in (done .0, c .before .before .store .ensures ∙ done .1)
 
 pub vote-tick-spec : {M : Type 1} → statement M
 vote-tick-spec =
