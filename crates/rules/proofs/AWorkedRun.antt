@@ -14,7 +14,7 @@ use Rattle.rules.specs.Heard.{member}
 use Rattle.rules.specs.Head.{decisionFor}
 use Rattle.rules.specs.Given.{WrittenDecision}
 use Rattle.rules.specs.Run.{Vote, Event, headIn, NoTwoDecisionsDiffer, EachWasProposed, AWrittenOneStays, NotRefusedBeforeTheLastPhase, EveryHeadDecides}
-use Rattle.rules.specs.Round.{Channel, received, ticksOfRound, round, lossless}
+use Rattle.rules.specs.Round.{Channel, received, ticksOfRound, round}
 use Rattle.rules.proofs.Computing.{computing, each}
 
 abbrev decision : Vote → List Event → ℕ → Decision
@@ -39,7 +39,7 @@ rounds vote (rows ∷ before) = round vote (rounds vote before) (losing rows)
 
 -- "two of document 01's rounds that lose nothing"
 abbrev pub twoRounds : Vote → List Event
-twoRounds vote = round vote (round vote [] (lossless (λ s. 0))) (lossless (λ s. 0))
+twoRounds vote = rounds vote ([] ∷ [] ∷ [])
 
 -- both heads propose the bit; two of three do
 abbrev pub twoOfTwo : ℕ → Vote

@@ -1,7 +1,7 @@
 -- Demand 2 at single ticks, computed, each after the ticks that lead to it from a start: under a wrong rule the demand's
 -- own statement is false at one of them. The cases are document 01's.
 use Prim.Native.Nat.{ℕ}
-use mathlib.Core.Path.{refl}
+use mathlib.Core.Path.{_≡_, refl}
 use mathlib.Core.List.{List, [], _∷_, _++_}
 use Rattle.rules.specs.declared.Value.{Value}
 use Rattle.rules.specs.declared.Value.the-variants.{Zero, One, Blank}
@@ -10,26 +10,27 @@ use Rattle.rules.specs.declared.Status.the-variants.{Undecided as u, Dec
 use Rattle.rules.specs.declared.Decision.{Decision}
 use Rattle.rules.specs.declared.Decision.the-variants.{One as ForOne, Unwritten as none}
 use Rattle.rules.specs.declared.Ballot.{Ballot}
-use Rattle.rules.specs.Algorithm.{Process}
-use Rattle.rules.specs.History.{Handed, headAfter, AllAccepted, ballotsIn, processAfter, Shows}
-use Rattle.rules.proofs.Computing.{ballot, bytes, computing, shows}
+use Rattle.rules.specs.Algorithm.{Process, processWith}
+use Rattle.rules.specs.History.{Handed, headAfter, acceptedOf, ballotsIn, processAfter, Shows}
+use Rattle.rules.proofs.Computing.{computing, shows}
+use Rattle.rules.specs.Ballot.{encode}
+use Rattle.rules.specs.Sixteen.{ballot}
 
 -- "coin 0 unless said"
 abbrev tick : List Ballot → Handed
-tick list = record { bytes = bytes list; coin = 0 }
+tick list = record { bytes = encode list; coin = 0 }
 
 -- "own number 0, proposal 1": the ticks, the last first, are accepted and do what Algorithm 1 does
 abbrev Does : ℕ → List Handed → Type 0
-Does n ticks = AllAccepted n 0 1 ticks × Shows (headAfter n 0 1 ticks) (processAfter n 1 ticks)
+Does n ticks = (acceptedOf n 0 1 ticks ≡ ticks) × Shows (headAfter n 0 1 ticks) (processAfter n 0 1 ticks)
 
 -- the process that they leave
 abbrev heardIn : List Handed → List Ballot
 heardIn [] = []
 heardIn (t ∷ ticks) = ballotsIn (t .bytes) ++ heardIn ticks
 
-abbrev process : List Handed → ℕ → Value → Status → Decision → Process
-process ticks phase value status decision =
-    record { phase = phase; value = value; status = status; decision = decision; heardSoFar = heardIn ticks }
+abbrev process : ℕ → List Handed → ℕ → Value → Status → Decision → Process
+process n ticks phase value status decision = processWith n 0 phase value status decision (heardIn ticks)
 
 abbrev case2 : List Handed
 case2 = tick (ballot 0 1 One u ∷ ballot 1 1 One u ∷ []) ∷ []
@@ -37,7 +38,7 @@ case2 = tick (ballot 0 1 One u ∷ ballot 1 1 One u ∷ []) ∷ []
 -- "A tick that returns its head unchanged"; "Old ballots of the phase left in the sets after step .. 3"
 pub a-tick-steps : Does 3 case2
 unfolding computing
-a-tick-steps = ((refl, refl), shows (process case2 2 One u none) refl refl refl refl refl refl refl refl refl)
+a-tick-steps = (refl, shows (process 3 case2 2 One u none) refl refl refl refl refl refl refl refl refl refl refl)
 
 abbrev repeated : List Handed
 repeated = tick (ballot 1 1 One u ∷ ballot 1 1 One u ∷ ballot 1 1 One u ∷ []) ∷ []
@@ -45,7 +46,7 @@ repeated = tick (ballot 1 1 One u ∷ ballot 1 1 One u ∷ ballot 1 1 One u ∷ 
 -- "Ballots counted instead of senders, so that a repeat makes a majority."
 pub senders-are-counted : Does 4 repeated
 unfolding computing
-senders-are-counted = ((refl, refl), shows (process repeated 1 One u none) refl refl refl refl refl refl refl refl refl)
+senders-are-counted = (refl, shows (process 4 repeated 1 One u none) refl refl refl refl refl refl refl refl refl refl refl)
 
 -- head 1 is heard at phase 1, then head 2 at phase 3
 abbrev moved : List Handed
@@ -54,7 +55,7 @@ moved = tick (ballot 2 3 One u ∷ []) ∷ tick (ballot 1 1 One u ∷ []) ∷ []
 -- "Old ballots of the phase left in the sets after step 2"
 pub that-phase-only-is-held : Does 4 moved
 unfolding computing
-that-phase-only-is-held = (((refl, refl), refl), shows (process moved 3 One u none) refl refl refl refl refl refl refl refl refl)
+that-phase-only-is-held = (refl, shows (process 4 moved 3 One u none) refl refl refl refl refl refl refl refl refl refl refl)
 
 abbrev ahead : List Handed
 ahead = tick (ballot 1 3 One d ∷ []) ∷ []
@@ -62,7 +63,7 @@ ahead = tick (ballot 1 3 One d ∷ []) ∷ []
 -- "take phase, value and status from a ballot of the highest phase"
 pub the-status-is-taken : Does 3 ahead
 unfolding computing
-the-status-is-taken = ((refl, refl), shows (process ahead 3 One d ForOne) refl refl refl refl refl refl refl refl refl)
+the-status-is-taken = (refl, shows (process 3 ahead 3 One d ForOne) refl refl refl refl refl refl refl refl refl refl refl)
 
 abbrev case7 : List Handed
 case7 = tick (ballot 0 2 One u ∷ ballot 1 2 One u ∷ []) ∷ case2
@@ -70,7 +71,7 @@ case7 = tick (ballot 0 2 One u ∷ ballot 1 2 One u ∷ []) ∷ case2
 -- "an engine that truly steps at the first tick and afterwards only raises the phase"
 pub a-later-tick-steps-too : Does 3 case7
 unfolding computing
-a-later-tick-steps-too = (((refl, refl), refl), shows (process case7 3 One d ForOne) refl refl refl refl refl refl refl refl refl)
+a-later-tick-steps-too = (refl, shows (process 3 case7 3 One d ForOne) refl refl refl refl refl refl refl refl refl refl refl)
 
 abbrev case8 : List Handed
 case8 = tick (ballot 1 4 One u ∷ []) ∷ case7
@@ -78,7 +79,7 @@ case8 = tick (ballot 1 4 One u ∷ []) ∷ case7
 -- "Status "decided" treated as lasting, or the decision erased with it: case 8."
 pub decided-is-not-lasting : Does 3 case8
 unfolding computing
-decided-is-not-lasting = ((((refl, refl), refl), refl), shows (process case8 4 One u ForOne) refl refl refl refl refl refl refl refl refl)
+decided-is-not-lasting = (refl, shows (process 3 case8 4 One u ForOne) refl refl refl refl refl refl refl refl refl refl refl)
 
 abbrev case4 : List Handed
 case4 = tick (ballot 0 1 One u ∷ ballot 1 1 One u ∷ ballot 2 1 Zero u ∷ []) ∷ []
@@ -86,7 +87,7 @@ case4 = tick (ballot 0 1 One u ∷ ballot 1 1 One u ∷ ballot 2 1 Zero u ∷ []
 -- "A majority of those heard instead of all n: case 4 would take 1."
 pub a-majority-is-one-of-all-n : Does 4 case4
 unfolding computing
-a-majority-is-one-of-all-n = ((refl, refl), shows (process case4 2 Blank u none) refl refl refl refl refl refl refl refl refl)
+a-majority-is-one-of-all-n = (refl, shows (process 4 case4 2 Blank u none) refl refl refl refl refl refl refl refl refl refl refl)
 
 abbrev case6 : List Handed
 case6 = tick (ballot 0 2 Blank u ∷ ballot 1 2 One u ∷ ballot 2 2 Blank u ∷ []) ∷ case4
@@ -94,4 +95,4 @@ case6 = tick (ballot 0 2 Blank u ∷ ballot 1 2 One u ∷ ballot 2 2 Blank u ∷
 -- "A coin drawn although one value was heard: case 6."
 pub a-value-heard-is-taken : Does 4 case6
 unfolding computing
-a-value-heard-is-taken = (((refl, refl), refl), shows (process case6 3 One u none) refl refl refl refl refl refl refl refl refl)
+a-value-heard-is-taken = (refl, shows (process 4 case6 3 One u none) refl refl refl refl refl refl refl refl refl refl refl)

@@ -4,15 +4,15 @@ use mathlib.Core.Path.{_≡_, refl, sym, _∙_}
 use mathlib.Core.List.{List}
 use mathlib.Core.Bool.{Bool, true, false, cond, _||_, not}
 use native.Mathlib.Omega.{arith}
-use lib.ListN.{length}
+use lib.ListN.{length, replicate}
 use lib.Dec.{ltb, eqb}
-use borrow.Author.Tests.{eqb-true}
+use borrow.Author.Tests.{eqb-true, ne-eqb}
 use Rattle.rules.specs.declared.Head.{Head}
 use Rattle.rules.specs.Number.{firstThatApplies}
 use Rattle.rules.specs.Ballot.{bytesOf, notHeads}
 use Rattle.rules.specs.Head.{sound, startNumber, startOf, ballotOf, sendOf}
 use Rattle.rules.specs.Tick.{tickNumber, tickOf}
-use Rattle.rules.specs.Record.{isRecord, startNumberFromC}
+use Rattle.rules.specs.Record.{isRecord, startNumberFromC, recordAfterStart, tickNumberFromC, recordAfterTick, sendNumberFromC, bufferAfterSend}
 use Rattle.rules.proofs.Truth.{and-left}
 
 -- two answers that are both what a definition gives are equal
@@ -62,3 +62,21 @@ send-unsound h = go (sound h)
 pub send-bytes : (h : Head) → sound h ≡ true → sendOf h .bytes ≡ bytesOf (ballotOf h)
 unfolding sendOf
 send-bytes h e = rw e
+
+-- ---- what a refusal leaves
+
+pub refused-tick : (h : Head) (l : List ℕ) (coin : ℕ) → (tickNumber h l coin ≡ 0 → ⊥) → tickOf h l coin .head ≡ h
+unfolding tickOf
+refused-tick h l coin n = rw (ne-eqb (tickNumber h l coin) 0 n)
+
+pub refused-tick-from-c : (r l : List ℕ) (coin : ℕ) → (tickNumberFromC r l coin ≡ 0 → ⊥) → recordAfterTick r l coin ≡ r
+unfolding recordAfterTick
+refused-tick-from-c r l coin n = rw (ne-eqb (tickNumberFromC r l coin) 0 n)
+
+pub refused-start-from-c : (r : List ℕ) (n own proposal : ℕ) → (startNumberFromC r n own proposal ≡ 0 → ⊥) → recordAfterStart r n own proposal ≡ r
+unfolding recordAfterStart
+refused-start-from-c r n own proposal f = rw (ne-eqb (startNumberFromC r n own proposal) 0 f)
+
+pub refused-send-from-c : (r buffer : List ℕ) → (sendNumberFromC r buffer ≡ 0 → ⊥) → bufferAfterSend r buffer ≡ replicate (length buffer) 0
+unfolding bufferAfterSend
+refused-send-from-c r buffer f = rw (ne-eqb (sendNumberFromC r buffer) 0 f)

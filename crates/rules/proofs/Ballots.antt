@@ -12,7 +12,7 @@ use Rattle.rules.specs.declared.Head.{Head}
 use Rattle.rules.specs.declared.Read.{Read}
 use Rattle.rules.specs.declared.Read.the-variants.{Accepted, Refused}
 use Rattle.rules.specs.Number.{firstThatApplies}
-use Rattle.rules.specs.Ballot.{valueCode, statusCode, ballotAt, bytesOf, breaksRule, readNumber, readBallot, zeroBallot, numberRead, ballotRead}
+use Rattle.rules.specs.Ballot.{valueCode, statusCode, ballotAt, bytesOf, breaksRule, readNumber, readBallot, zeroBallot, numberRead, ballotRead, Bytes}
 use Rattle.rules.specs.Head.{sound, ballotOf, sendOf}
 use Rattle.rules.specs.Given.{Heads, Obeys, Sound, first, second, odd, even}
 use Rattle.rules.proofs.Truth.{not-false}
@@ -39,9 +39,9 @@ written-reads-back n b few stands = (none, rw none (bytes-hold b))
 pub ballot-reads-back : (h : Head) → Sound h → (readNumber (h .n) (bytesOf (ballotOf h)) ≡ 0) × (readBallot (h .n) (bytesOf (ballotOf h)) ≡ ballotOf h)
 ballot-reads-back h s = written-reads-back (h .n) (ballotOf h) (s .heads) (record { sender = s .own; rules = s .rules })
 
-pub sent-reads-back : (h : Head) → sound h ≡ true → (sendOf h .number ≡ 0) × (readNumber (h .n) (sendOf h .bytes) ≡ 0) × (readBallot (h .n) (sendOf h .bytes) ≡ ballotOf h)
+pub sent-reads-back : (h : Head) → Sound h → (sendOf h .number ≡ 0) × (readNumber (h .n) (sendOf h .bytes) ≡ 0) × (readBallot (h .n) (sendOf h .bytes) ≡ ballotOf h)
 unfolding sendOf
-sent-reads-back h e = let r = ballot-reads-back h (means-sound h .0 e) in rw e (refl, r .0, r .1)
+sent-reads-back h s = let r = ballot-reads-back h s in rw (means-sound h .1 s) (refl, r .0, r .1)
 
 -- ---- the other way
 
@@ -56,10 +56,6 @@ number-by-number zero [] h = refl
 number-by-number zero (a ∷ l) h = absurd (omega arith)
 number-by-number (suc k) [] h = absurd (omega arith)
 number-by-number (suc k) (a ∷ l) h = ap (λ (m : List ℕ). a ∷ m) (number-by-number k l (omega arith))
-
--- a list of bytes
-abbrev pub Bytes : List ℕ → Type 0
-Bytes l = (i : ℕ) → getD l i 0 < 256
 
 pub high-byte : (a b : ℕ) → b < 256 → (a * 256 + b) / 256 ≡ a
 high-byte a b h = omega arith

@@ -16,20 +16,20 @@ use Rattle.rules.specs.Below.{count}
 use Rattle.rules.specs.Ballot.{valueCode, valueOf, sameValue}
 use Rattle.rules.specs.Heard.{member, size, overHalf, heard}
 use Rattle.rules.specs.Head.{anyHeard}
-use Rattle.rules.specs.Tick.{quorum, majority, bitWith, stepValue, stepStatus, stepped}
-use Rattle.rules.specs.Given.{Hears}
-use Rattle.rules.specs.Algorithm.{Process, someIn, atPhase, atPhaseWith, lines14to32, lines16to20, lines22to24, lines25to29}
+use Rattle.rules.specs.Tick.{quorum, majority, stepValue, stepStatus, stepped}
+use Rattle.rules.specs.Choice.{bitWith}
+use Rattle.rules.specs.Given.{Hears, Says}
+use Rattle.rules.specs.Algorithm.{Process, processWith, someIn, atPhase, atPhaseWith, lines14to32, lines16to20, lines22to24, lines25to29}
 use Rattle.rules.proofs.Truth.{Means, means-self, means-as, means-and, means-or, means-eq, means-same}
 use Rattle.rules.proofs.Below.{count-same}
 use Rattle.rules.proofs.Counting.{count-within, count-either, means-count}
 use Rattle.rules.proofs.Sets.{means-any}
 use Rattle.rules.proofs.Meanings.{means-value}
-use Rattle.rules.proofs.Senders.{Says}
 use Rattle.rules.proofs.HeardSoFar.{Among, means-among}
 
 -- the process that has what the head has, and has heard all these ballots
 abbrev pub shown : Head → List Ballot → Process
-shown h all = record { phase = h .phase; value = h .value; status = h .status; decision = h .decision; heardSoFar = all }
+shown h all = processWith (h .n) (h .own) (h .phase) (h .value) (h .status) (h .decision) all
 
 -- the head's sets are as a sound head's, and hold the senders of the ballots of its phase among all these
 pub record BySender (h : Head) (all : List Ballot) : Type 0 where
@@ -40,7 +40,7 @@ pub record BySender (h : Head) (all : List Ballot) : Type 0 where
 
 module _ (h : Head) (all : List Ballot) (sets : BySender h all) where
   -- the size of the set of v is Algorithm 1's count of the senders of the phase with v
-  size-is : (v : Value) → size (heard h v) ≡ atPhaseWith (shown h all) (h .n) v
+  size-is : (v : Value) → size (heard h v) ≡ atPhaseWith (shown h all) v
   unfolding size
   size-is v = count-within 32 _ (sets .few) (sets .members v) ∙ count-same (h .n) _ _ (λ s l. means-same (means-as (sets .senders v s .0) (sets .senders v s .1) (means-self _)) (test s))
     where
@@ -52,7 +52,7 @@ module _ (h : Head) (all : List Ballot) (sets : BySender h all) where
           (means-and (means-eq (b .sender) s) (means-and (means-eq (b .phase) (h .phase)) (means-value (b .value) v))))
 
   -- the three sizes together are its count of the senders of the phase
-  sizes-are : size (h .zeros) + size (h .ones) + size (h .blanks) ≡ atPhase (shown h all) (h .n)
+  sizes-are : size (h .zeros) + size (h .ones) + size (h .blanks) ≡ atPhase (shown h all)
   unfolding size
   sizes-are =
       ap (λ (k : ℕ). k + count 32 (hears Blank)) (sym (count-either 32 (hears Zero) (hears One) (apart Zero One (lit< tt))))
@@ -98,17 +98,17 @@ module _ (h : Head) (all : List Ballot) (sets : BySender h all) where
           (means-among (λ b. means-and (means-eq (b .sender) s) (means-eq (b .phase) (h .phase))))
 
   -- so line 14 tests what step 3 tests
-  quorum-is : quorum h ≡ overHalf (h .n) (atPhase (shown h all) (h .n))
+  quorum-is : quorum h ≡ overHalf (h .n) (atPhase (shown h all))
   unfolding quorum
   quorum-is = ap (overHalf (h .n)) sizes-are
 
   -- lines 16 and 22
-  majority-is : (v : Value) → majority h v ≡ overHalf (h .n) (atPhaseWith (shown h all) (h .n) v)
+  pub majority-is : (v : Value) → majority h v ≡ overHalf (h .n) (atPhaseWith (shown h all) v)
   unfolding majority
   majority-is v = ap (overHalf (h .n)) (size-is v)
 
   -- and line 25
-  any-is : (v : Value) → anyHeard h v ≡ leb 1 (atPhaseWith (shown h all) (h .n) v)
+  pub any-is : (v : Value) → anyHeard h v ≡ leb 1 (atPhaseWith (shown h all) v)
   unfolding size
   any-is v =
       means-same (means-any (heard h v))
@@ -116,26 +116,26 @@ module _ (h : Head) (all : List Ballot) (sets : BySender h all) where
       ∙ ap (leb 1) (size-is v)
 
   -- "if a value was heard from more than n/2 heads, take it, else blank"
-  take-majority : lines16to20 (shown h all) (h .n) ≡ bitWith (majority h) Blank
+  take-majority : lines16to20 (shown h all) ≡ bitWith (majority h) Blank
   unfolding lines16to20
   take-majority = ap (λ (p : Value → Bool). bitWith p Blank) (fun-ext (λ v. sym (majority-is v)))
 
   -- "if a value 0 or 1 was heard from more than n/2 heads, become decided"
-  become-decided : lines22to24 (shown h all) (h .n) ≡ cond (majority h Zero || majority h One) Decided (h .status)
+  become-decided : lines22to24 (shown h all) ≡ cond (majority h Zero || majority h One) Decided (h .status)
   unfolding lines22to24
   become-decided = ap₂ (λ (s t : Bool). cond (s || t) Decided (h .status)) (sym (majority-is Zero)) (sym (majority-is One))
 
   -- "then take the value 0 or 1 that was heard at all, else the coin"
-  take-heard : (coin : ℕ) → lines25to29 (shown h all) (h .n) coin ≡ bitWith (anyHeard h) (valueOf coin)
+  take-heard : (coin : ℕ) → lines25to29 (shown h all) coin ≡ bitWith (anyHeard h) (valueOf coin)
   unfolding lines25to29
   take-heard coin = ap (λ (p : Value → Bool). bitWith p (valueOf coin)) (fun-ext (λ v. sym (any-is v)))
 
   -- step 3 does what lines 14 to 32 do
-  pub stepped-is : (coin : ℕ) → lines14to32 (shown h all) (h .n) coin ≡ shown (stepped h coin) all
+  pub stepped-is : (coin : ℕ) → lines14to32 (shown h all) coin ≡ shown (stepped h coin) all
   unfolding lines14to32 stepped stepValue stepStatus
   stepped-is coin = go (quorum h) refl (ℕ-discrete (h .phase % 2) 1)
     where
-      go : (q : Bool) → quorum h ≡ q → Dec (h .phase % 2 ≡ 1) → lines14to32 (shown h all) (h .n) coin ≡ shown (stepped h coin) all
+      go : (q : Bool) → quorum h ≡ q → Dec (h .phase % 2 ≡ 1) → lines14to32 (shown h all) coin ≡ shown (stepped h coin) all
       go false e d = rw (← quorum-is, e)
       go true e (yes o) = rw (← quorum-is, e, o, take-majority)
       go true e (no o) = let z : h .phase % 2 ≡ 0 = omega arith in rw (← quorum-is, e, z, become-decided, take-heard)

@@ -1,7 +1,7 @@
 -- A written decision stays through every tick, whatever it is handed.
 use Prim.Native.Nat.{ℕ}
 use mathlib.Core.Path.{_≡_, refl, sym, _∙_}
-use mathlib.Core.List.{List}
+use mathlib.Core.List.{List, [], _∷_, _++_}
 use mathlib.Core.Bool.{Bool, true, false, cond}
 use mathlib.Core.Logic.{inr}
 use native.Mathlib.Decide.{ℕ-discrete}
@@ -13,11 +13,12 @@ use Rattle.rules.specs.declared.Head.{Head}
 use Rattle.rules.specs.Ballot.{valueCode}
 use Rattle.rules.specs.Head.{decisionCode, decisionFor, isDecided}
 use Rattle.rules.specs.Tick.{gathered, quorum, risen, stepped, settled, tickNumber, tickOf}
-use Rattle.rules.specs.Given.{DecidesOtherwise}
+use Rattle.rules.specs.Given.{WrittenDecision, DecidesOtherwise}
 use Rattle.rules.proofs.Truth.{false-not}
 use Rattle.rules.proofs.Meanings.{means-decided, means-for}
 use Rattle.rules.proofs.Accepted.{tick-accepted}
 use Rattle.rules.proofs.Senders.{gathered-same}
+use Rattle.rules.specs.Run.{Vote, Event, headIn, AWrittenOneStays}
 
 -- step 3 keeps it
 stepped-decision : (g : Head) (coin : ℕ) → stepped g coin .decision ≡ g .decision
@@ -54,3 +55,14 @@ tick-keeps-decision h l coin w = go (ℕ-discrete (tickNumber h l coin) 0)
     go : Dec (tickNumber h l coin ≡ 0) → cond (eqb (tickNumber h l coin) 0) (settled (stepped (gathered h l) coin)) h .decision ≡ h .decision
     go (yes n) = rw n (settled-decision (stepped (gathered h l) coin) (λ z. w (sym same ∙ z)) (tick-accepted h l coin n .decides) ∙ same)
     go (no n) = rw (ne-eqb (tickNumber h l coin) 0 n)
+
+-- "a written one stays", whatever comes later
+pub decision-stays : (vote : Vote) (events later : List Event) → AWrittenOneStays vote events later
+decision-stays vote events [] s h w = refl
+decision-stays vote events (e ∷ later) s h w = let i = decision-stays vote events later s h w in go (eqb (e .head) s) (λ z. w (sym i ∙ z)) ∙ i
+  where
+    go : (t : Bool) → WrittenDecision (headIn vote (later ++ events) s)
+        → cond t (tickOf (headIn vote (later ++ events) s) (e .bytes) (e .coin) .head) (headIn vote (later ++ events) s) .decision
+        ≡ headIn vote (later ++ events) s .decision
+    go true written = tick-keeps-decision (headIn vote (later ++ events) s) (e .bytes) (e .coin) written
+    go false written = refl

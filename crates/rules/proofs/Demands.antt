@@ -1,201 +1,259 @@
--- The demands. Read this page first: each theorem below answers the sentence above it, over the definitions that the
--- engine's promises cite. Specs: Given and Record for demand 1, Algorithm and History for demand 2, Run and Round for
--- demand 3.
+-- The demands. Read this page first: each theorem below answers the sentence above it, over the definitions that the engine's
+-- promises cite. Specs: Given and Record for demand 1, Algorithm and History for demand 2, Run and Round for demand 3. How
+-- each theorem is used stands in DemandsApplied.
 use Prim.Native.Nat.{ℕ, _*_, _<_}
-use mathlib.Core.Path.{_≡_, refl, sym, ap, _∙_}
-use mathlib.Core.List.{List, [], _∷_, _++_}
-use mathlib.Core.Bool.{Bool, true, false, cond}
+use mathlib.Core.Path.{_≡_}
+use mathlib.Core.List.{List, [], _∷_, map}
+use mathlib.Core.Bool.{false}
 use mathlib.Core.Logic.{_↔_}
-use native.Mathlib.Omega.{arith}
 use lib.ListN.{length, replicate}
 use lib.Dec.{eqb}
-use borrow.Author.Tests.{ne-eqb}
 use Rattle.rules.specs.declared.Value.{Value}
-use Rattle.rules.specs.declared.Value.the-variants.{Zero, One, Blank}
-use Rattle.rules.specs.declared.Status.the-variants.{Decided}
-use Rattle.rules.specs.declared.Ballot.{Ballot}
 use Rattle.rules.specs.declared.Head.{Head}
-use Rattle.rules.specs.Below.{some, count}
-use Rattle.rules.specs.Ballot.{valueOf, sameValue, readNumber, readBallot}
-use Rattle.rules.specs.Head.{decisionFor, sound, startNumber, startOf, ballotOf, sendOf}
-use Rattle.rules.specs.Tick.{tickNumber, tickOf}
-use Rattle.rules.specs.Record.{headAt, startNumberFromC, recordAfterStart, tickNumberFromC, recordAfterTick, sendNumberFromC, bufferAfterSend}
-use Rattle.rules.specs.Given.{Given, startTable, readTable, tickTable, startTableFromC, tickTableFromC, sendTableFromC, Sound, WrittenDecision}
-use Rattle.rules.specs.History.{Handed, headAfter, AllAccepted, processAfter, Shows}
-use Rattle.rules.specs.Run.{Vote, Proper, Event, headIn, Sent, Run, NoTwoDecisionsDiffer, EachWasProposed, AWrittenOneStays, NotRefusedBeforeTheLastPhase, EveryHeadDecides}
-use Rattle.rules.specs.Round.{Channel, round, lossless}
-use Rattle.rules.proofs.Truth.{false-not}
-use Rattle.rules.proofs.Below.{means-some, not-some}
-use Rattle.rules.proofs.Meanings.{means-value}
-use Rattle.rules.proofs.Given.{start-given, read-given, tick-given}
+use Rattle.rules.specs.Below.{count}
+use Rattle.rules.specs.Ballot.{bytesOf, fiveAt, Bytes, ballotAt, readNumber, readBallot}
+use Rattle.rules.specs.Head.{startNumber, startOf, ballotOf, sendOf}
+use Rattle.rules.specs.Tick.{ballots, gathered, quorum, tickNumber, tickOf}
+use Rattle.rules.specs.Record.{recordOf, headAt, startNumberFromC, recordAfterStart, tickNumberFromC, recordAfterTick, sendNumberFromC, bufferAfterSend}
+use Rattle.rules.specs.Given.{Given, Sound, Hears, HeldOrSent, startTable, readTable, sendTable, tickTable, startTableFromC, tickTableFromC, sendTableFromC}
+use Rattle.rules.specs.Algorithm.{Process, line6, line8, lines9to13}
+use Rattle.rules.specs.History.{Handed, headAfter, acceptedOf, ballotsIn, processAfter, Shows, OneBitIsThere}
+use Rattle.rules.specs.Run.{Vote, Proper, Event, headIn, ticksOf, recordIn, Run, NoTwoDecisionsDiffer, EachWasProposed, AWrittenOneStays, NotRefusedBeforeTheLastPhase, EveryHeadDecides}
+use Rattle.rules.specs.Round.{Channel, round, LosesNothing, CoinsAreBits}
+use Rattle.rules.proofs.Given.{start-given, read-given, send-given, tick-given}
+use Rattle.rules.proofs.Senders.{hears-exactly, tick-hears}
 use Rattle.rules.proofs.FromC.{starts-given, ticks-given, sends-given, started-record-holds, ticked-record-holds, ballot-from-c-reads-back}
-use Rattle.rules.proofs.Ballots.{Bytes, sent-reads-back, one-ballot-one-writing}
-use Rattle.rules.proofs.AsAlgorithm.{as-algorithm-1}
+use Rattle.rules.proofs.Answers.{refused-tick, refused-tick-from-c, refused-start-from-c, refused-send-from-c}
+use Rattle.rules.proofs.Ballots.{sent-reads-back, one-ballot-one-writing}
+use Rattle.rules.proofs.Encoding.{tick-takes-its-bytes}
+use Rattle.rules.proofs.RecordsOfAVote as R
+use Rattle.rules.proofs.AsAlgorithm.{as-algorithm-1, sends-line-6, one-bit-is-there}
+use Rattle.rules.proofs.HistoryInARun.{as-algorithm-1-in-a-run}
 use Rattle.rules.proofs.Rounds.{round-is-run}
 use Rattle.rules.proofs.TwoRounds.{two-rounds-decide}
-use Rattle.rules.proofs.Ledger.{decided-bit, decided-agree, all-carry}
-use Rattle.rules.proofs.OneEvent.{Kept, event-number}
+use Rattle.rules.proofs.OneEvent.{event-number}
 use Rattle.rules.proofs.Runs.{kept-run}
-use Rattle.rules.proofs.Decisions.{tick-keeps-decision}
-use Rattle.rules.proofs.TheBit.{Bit, zero-bit, one-bit}
+use Rattle.rules.proofs.Decisions.{decision-stays}
+use Rattle.rules.proofs.Proposed.{decisions-agree, decision-proposed}
+use Rattle.rules.specs.Sixteen.{Said, sixteen}
+use Rattle.rules.proofs.Sixteen.{each-tick-gives-what-is-said}
 
 -- ---- Demand 1
 
 -- "Bad input is refused by the first number that applies": document 01's table, line by line (specs/Given)
-pub a-start-is-refused-by-the-first-number-that-applies : (n own proposal number : ℕ) → (startNumber n own proposal ≡ number) ↔ Given number (startTable n own proposal)
+pub a-start-is-refused-by-the-first-number-that-applies : (n own proposal number : ℕ)
+    → (startNumber n own proposal ≡ number) ↔ Given number 0 (startTable n own proposal)
 a-start-is-refused-by-the-first-number-that-applies = start-given
 
-pub a-reading-is-refused-by-the-first-number-that-applies : (n : ℕ) (bytes : List ℕ) (number : ℕ) → (readNumber n bytes ≡ number) ↔ Given number (readTable n bytes)
+pub a-reading-is-refused-by-the-first-number-that-applies : (n : ℕ) (bytes : List ℕ) (number : ℕ)
+    → (readNumber n bytes ≡ number) ↔ Given number 0 (readTable n bytes)
 a-reading-is-refused-by-the-first-number-that-applies = read-given
 
-pub a-tick-is-refused-by-the-first-number-that-applies : (h : Head) (l : List ℕ) (coin number : ℕ) → (tickNumber h l coin ≡ number) ↔ Given number (tickTable h l coin)
+pub a-sending-is-refused-by-the-first-number-that-applies : (h : Head) (number : ℕ)
+    → (sendOf h .number ≡ number) ↔ Given number 0 (sendTable h)
+a-sending-is-refused-by-the-first-number-that-applies = send-given
+
+pub a-tick-is-refused-by-the-first-number-that-applies : (h : Head) (l : List ℕ) (coin number : ℕ)
+    → (tickNumber h l coin ≡ number) ↔ Given number 0 (tickTable h l coin)
 a-tick-is-refused-by-the-first-number-that-applies = tick-given
 
+-- what rows 9 to 11 of a tick's table say they find "after step 2": whom the head hears then, and after the whole tick
+pub whom-a-head-hears-after-step-2 : (h : Head) (l : List ℕ) (coin : ℕ)
+    → tickNumber h l coin ≡ 0
+    → (v : Value) (s : ℕ) → Hears (gathered h l) v s ↔ HeldOrSent h l v s
+whom-a-head-hears-after-step-2 = hears-exactly
+
+pub whom-a-head-hears-after-a-tick : (h : Head) (l : List ℕ) (coin : ℕ)
+    → tickNumber h l coin ≡ 0
+    → (v : Value) (s : ℕ) → Hears (tickOf h l coin .head) v s ↔ ((quorum (gathered h l) ≡ false) × HeldOrSent h l v s)
+whom-a-head-hears-after-a-tick = tick-hears
+
 -- the same from C
-pub a-start-from-c-is-refused-by-the-first-number-that-applies : (r : List ℕ) (n own proposal number : ℕ) → (startNumberFromC r n own proposal ≡ number) ↔ Given number (startTableFromC r n own proposal)
+pub a-start-from-c-is-refused-by-the-first-number-that-applies : (r : List ℕ) (n own proposal number : ℕ)
+    → (startNumberFromC r n own proposal ≡ number) ↔ Given number 0 (startTableFromC r n own proposal)
 a-start-from-c-is-refused-by-the-first-number-that-applies = starts-given
 
-pub a-tick-from-c-is-refused-by-the-first-number-that-applies : (r l : List ℕ) (coin number : ℕ) → (tickNumberFromC r l coin ≡ number) ↔ Given number (tickTableFromC r l coin)
+pub a-tick-from-c-is-refused-by-the-first-number-that-applies : (r l : List ℕ) (coin number : ℕ)
+    → (tickNumberFromC r l coin ≡ number) ↔ Given number 0 (tickTableFromC r l coin)
 a-tick-from-c-is-refused-by-the-first-number-that-applies = ticks-given
 
-pub a-ballot-from-c-is-refused-by-the-first-number-that-applies : (r buffer : List ℕ) (number : ℕ) → (sendNumberFromC r buffer ≡ number) ↔ Given number (sendTableFromC r buffer)
+pub a-ballot-from-c-is-refused-by-the-first-number-that-applies : (r buffer : List ℕ) (number : ℕ)
+    → (sendNumberFromC r buffer ≡ number) ↔ Given number 0 (sendTableFromC r buffer)
 a-ballot-from-c-is-refused-by-the-first-number-that-applies = sends-given
 
 -- "A refused tick returns the head as it came"
-pub a-refused-tick-returns-the-head-as-it-came : (h : Head) (l : List ℕ) (coin : ℕ) → (tickNumber h l coin ≡ 0 → ⊥) → tickOf h l coin .head ≡ h
-unfolding tickOf
-a-refused-tick-returns-the-head-as-it-came h l coin n = rw (ne-eqb (tickNumber h l coin) 0 n)
+pub a-refused-tick-returns-the-head-as-it-came : (h : Head) (l : List ℕ) (coin : ℕ)
+    → (tickNumber h l coin ≡ 0 → ⊥)
+    → tickOf h l coin .head ≡ h
+a-refused-tick-returns-the-head-as-it-came = refused-tick
 
 -- "no byte of a lent record .. changes"
-pub a-refused-tick-changes-no-byte : (r l : List ℕ) (coin : ℕ) → (tickNumberFromC r l coin ≡ 0 → ⊥) → recordAfterTick r l coin ≡ r
-unfolding recordAfterTick
-a-refused-tick-changes-no-byte r l coin n = rw (ne-eqb (tickNumberFromC r l coin) 0 n)
+pub a-refused-tick-changes-no-byte : (r l : List ℕ) (coin : ℕ)
+    → (tickNumberFromC r l coin ≡ 0 → ⊥)
+    → recordAfterTick r l coin ≡ r
+a-refused-tick-changes-no-byte = refused-tick-from-c
 
-pub a-refused-start-changes-no-byte : (r : List ℕ) (n own proposal : ℕ) → (startNumberFromC r n own proposal ≡ 0 → ⊥) → recordAfterStart r n own proposal ≡ r
-unfolding recordAfterStart
-a-refused-start-changes-no-byte r n own proposal f = rw (ne-eqb (startNumberFromC r n own proposal) 0 f)
+pub a-refused-start-changes-no-byte : (r : List ℕ) (n own proposal : ℕ)
+    → (startNumberFromC r n own proposal ≡ 0 → ⊥)
+    → recordAfterStart r n own proposal ≡ r
+a-refused-start-changes-no-byte = refused-start-from-c
 
 -- "either refusal leaves every byte of that buffer zero", document 01
-pub a-refused-ballot-leaves-zeros : (r buffer : List ℕ) → (sendNumberFromC r buffer ≡ 0 → ⊥) → bufferAfterSend r buffer ≡ replicate (length buffer) 0
-unfolding bufferAfterSend
-a-refused-ballot-leaves-zeros r buffer f = rw (ne-eqb (sendNumberFromC r buffer) 0 f)
+pub a-refused-ballot-leaves-zeros : (r buffer : List ℕ)
+    → (sendNumberFromC r buffer ≡ 0 → ⊥)
+    → bufferAfterSend r buffer ≡ replicate (length buffer) 0
+a-refused-ballot-leaves-zeros = refused-send-from-c
 
 -- ---- Demand 2
 
--- "Each accepted tick does what Algorithm 1 .. does with all ballots heard so far", "for every sequence of accepted ticks
--- from a start"
-pub each-accepted-tick-does-what-algorithm-1-does : (n own proposal : ℕ) (ticks : List Handed) → AllAccepted n own proposal ticks → Shows (headAfter n own proposal ticks) (processAfter n proposal ticks)
+-- "Each accepted tick does what Algorithm 1 .. does with all ballots heard so far": for every sequence of ticks from a start,
+-- those that were refused passed over
+pub each-accepted-tick-does-what-algorithm-1-does : (n own proposal : ℕ)
+    → startNumber n own proposal ≡ 0
+    → (ticks : List Handed)
+    → Shows (headAfter n own proposal ticks) (processAfter n own proposal (acceptedOf n own proposal ticks))
 each-accepted-tick-does-what-algorithm-1-does = as-algorithm-1
 
--- "Start, tick and ballot are called from C on such records", document 01: a record holds the head that the engine gives,
--- so what is said here of heads by value is said of records
-pub a-start-from-c-is-the-start : (r : List ℕ) (n own proposal : ℕ) → startNumberFromC r n own proposal ≡ 0 → headAt (recordAfterStart r n own proposal) ≡ startOf n own proposal .head
+-- line 6 of the paper: "A head sends its present phase, value and status", document 01
+pub a-head-sends-what-line-6-sends : (h : Head) (i : Process) → Shows h i → ballotOf h ≡ line6 i
+a-head-sends-what-line-6-sends = sends-line-6
+
+-- "choices fixed as in document 01": where the paper takes or draws a bit in an accepted tick, 0 and 1 are never both there
+pub both-bits-are-never-there : (n own proposal : ℕ)
+    → startNumber n own proposal ≡ 0
+    → (ticks : List Handed) (t : Handed)
+    → tickNumber (headAfter n own proposal ticks) (t .bytes) (t .coin) ≡ 0
+    → let i = processAfter n own proposal (acceptedOf n own proposal ticks) in
+    OneBitIsThere (lines9to13 (line8 i (ballotsIn (t .bytes))))
+both-bits-are-never-there = one-bit-is-there
+
+-- "Start, tick and ballot are called from C on such records", document 01: an entry does on a head's record what the engine
+-- does on the head, and gives the same number, accepted or refused
+pub tick-number-on-a-record : (h : Head) (l : List ℕ) (coin : ℕ)
+    → tickNumberFromC (recordOf h) l coin ≡ tickNumber h l coin
+tick-number-on-a-record = R.tick-number-on-a-record
+
+pub tick-on-a-record : (h : Head) (l : List ℕ) (coin : ℕ)
+    → recordAfterTick (recordOf h) l coin ≡ recordOf (tickOf h l coin .head)
+tick-on-a-record = R.tick-on-a-record
+
+-- and whatever an accepted entry was lent, what it leaves holds the head that the engine gives
+pub a-start-from-c-is-the-start : (r : List ℕ) (n own proposal : ℕ)
+    → startNumberFromC r n own proposal ≡ 0
+    → headAt (recordAfterStart r n own proposal) ≡ startOf n own proposal .head
 a-start-from-c-is-the-start = started-record-holds
 
-pub a-tick-from-c-is-the-tick : (r l : List ℕ) (coin : ℕ) → tickNumberFromC r l coin ≡ 0 → headAt (recordAfterTick r l coin) ≡ tickOf (headAt r) l coin .head
+pub a-tick-from-c-is-the-tick : (r l : List ℕ) (coin : ℕ)
+    → tickNumberFromC r l coin ≡ 0
+    → headAt (recordAfterTick r l coin) ≡ tickOf (headAt r) l coin .head
 a-tick-from-c-is-the-tick = ticked-record-holds
 
 -- "Every ballot written reads back as written"
-pub every-ballot-written-reads-back : (h : Head) → sound h ≡ true → (sendOf h .number ≡ 0) × (readNumber (h .n) (sendOf h .bytes) ≡ 0) × (readBallot (h .n) (sendOf h .bytes) ≡ ballotOf h)
+pub every-ballot-written-reads-back : (h : Head)
+    → Sound h
+    → (sendOf h .number ≡ 0)
+    × (readNumber (h .n) (sendOf h .bytes) ≡ 0)
+    × (readBallot (h .n) (sendOf h .bytes) ≡ ballotOf h)
 every-ballot-written-reads-back = sent-reads-back
 
-pub every-ballot-written-from-c-reads-back : (r buffer : List ℕ) → sendNumberFromC r buffer ≡ 0 → (readNumber (headAt r .n) (bufferAfterSend r buffer) ≡ 0) × (readBallot (headAt r .n) (bufferAfterSend r buffer) ≡ ballotOf (headAt r))
+pub every-ballot-written-from-c-reads-back : (r buffer : List ℕ)
+    → sendNumberFromC r buffer ≡ 0
+    → (readNumber (headAt r .n) (bufferAfterSend r buffer) ≡ 0)
+    × (readBallot (headAt r .n) (bufferAfterSend r buffer) ≡ ballotOf (headAt r))
 every-ballot-written-from-c-reads-back = ballot-from-c-reads-back
 
--- "every accepted ballot's bytes are the only ones for it"
-pub accepted-bytes-are-the-only-ones : (n m : ℕ) (k l : List ℕ) → Bytes k → Bytes l → readNumber n k ≡ 0 → readNumber m l ≡ 0 → readBallot n k ≡ readBallot m l → k ≡ l
+-- "every accepted ballot's bytes are the only ones for it": of one ballot read, and of the ballots that a tick takes
+pub accepted-bytes-are-the-only-ones : (n m : ℕ) (k l : List ℕ)
+    → Bytes k
+    → Bytes l
+    → readNumber n k ≡ 0
+    → readNumber m l ≡ 0
+    → readBallot n k ≡ readBallot m l
+    → k ≡ l
 accepted-bytes-are-the-only-ones = one-ballot-one-writing
+
+pub a-tick-takes-ballots-by-their-only-bytes : (h : Head) (l : List ℕ) (coin : ℕ)
+    → Bytes l
+    → tickNumber h l coin ≡ 0
+    → (i : ℕ)
+    → i < ballots l
+    → fiveAt l i ≡ bytesOf (ballotAt l i)
+a-tick-takes-ballots-by-their-only-bytes = tick-takes-its-bytes
 
 -- ---- Demand 3
 
+-- "under demand 2"
+pub each-head-of-a-run-does-what-algorithm-1-does : (vote : Vote) (events : List Event)
+    → Run vote events
+    → (s : ℕ)
+    → s < vote .n
+    → let ticks = acceptedOf (vote .n) s (vote .proposal s) (ticksOf s events) in
+    Shows (headIn vote events s) (processAfter (vote .n) s (vote .proposal s) ticks)
+each-head-of-a-run-does-what-algorithm-1-does = as-algorithm-1-in-a-run
+
+-- what the firmware holds: n records of 20 bytes, started and ticked from C, hold the heads of the run at every point
+pub records-hold-the-heads : (vote : Vote)
+    → Proper vote
+    → (lent : ℕ → List ℕ)
+    → ((s : ℕ) → s < vote .n → length (lent s) ≡ 20)
+    → (events : List Event) (s : ℕ)
+    → s < vote .n
+    → recordIn vote lent events s ≡ recordOf (headIn vote events s)
+records-hold-the-heads = R.records-hold-the-heads
+
 -- "No two decisions differ"
-pub no-two-decisions-differ : (vote : Vote) (events : List Event) → Run vote events → NoTwoDecisionsDiffer vote events
-no-two-decisions-differ vote events run s t hs ht ws wt =
-    let K = kept-run vote events run in
-    let x = K .decision s hs ws in
-    let y = K .decision t ht wt in
-    x .3 ∙ ap decisionFor (decided-agree (K .ledger) (x .0) (y .0) (x .1) (y .1) (x .2) (y .2)) ∙ sym (y .3)
-
--- the other bit
-abbrev other : Value → Value
-other Zero = One
-other One = Zero
-other Blank = Zero
-
-other-bit : (v : Value) → Bit (other v)
-other-bit Zero = one-bit
-other-bit One = zero-bit
-other-bit Blank = zero-bit
-
-other-not : (v : Value) → v ≡ other v → ⊥
-other-not Zero e = let z : _≡_ {A = ℕ} 0 1 = cc in omega arith
-other-not One e = let z : _≡_ {A = ℕ} 0 1 = cc in omega arith
-other-not Blank e = let z : _≡_ {A = ℕ} 0 1 = cc in omega arith
-
-two-bits : (a v : Value) → Bit a → Bit v → (a ≡ v → ⊥) → a ≡ other v
-two-bits Zero Zero ba bv n = absurd (n refl)
-two-bits Zero One ba bv n = refl
-two-bits Zero Blank ba bv n = refl
-two-bits One Zero ba bv n = refl
-two-bits One One ba bv n = absurd (n refl)
-two-bits One Blank ba bv n = absurd (bv refl)
-two-bits Blank Zero ba bv n = absurd (ba refl)
-two-bits Blank One ba bv n = absurd (ba refl)
-two-bits Blank Blank ba bv n = absurd (ba refl)
+pub no-two-decisions-differ : (vote : Vote) (events : List Event)
+    → Run vote events
+    → NoTwoDecisionsDiffer vote events
+no-two-decisions-differ = decisions-agree
 
 -- "each was proposed by some head"
-pub each-was-proposed : (vote : Vote) (events : List Event) → Run vote events → EachWasProposed vote events
-each-was-proposed vote events run s hs ws = go (some (vote .n) test) refl
-  where
-    K : Kept vote events
-    K = kept-run vote events run
+pub each-was-proposed : (vote : Vote) (events : List Event)
+    → Run vote events
+    → EachWasProposed vote events
+each-was-proposed = decision-proposed
 
-    x : (b : Ballot) × Sent vote events b × (b .status ≡ Decided) × (headIn vote events s .decision ≡ decisionFor (b .value))
-    x = kept-run vote events run .decision s hs ws
-
-    v : Value
-    v = x .0 .value
-
-    test : ℕ → Bool
-    test t = sameValue (valueOf (vote .proposal t)) (x .0 .value)
-
-    go : (a : Bool) → some (vote .n) test ≡ a → (t : ℕ) × (t < vote .n) × (headIn vote events s .decision ≡ decisionFor (valueOf (vote .proposal t)))
-    go true e = let r = means-some (λ t. means-value (valueOf (vote .proposal t)) (x .0 .value)) .0 e in (r .0, r .1, x .3 ∙ ap decisionFor (sym (r .2)))
-    go false e = absurd (other-not v (all-carry (K .ledger) (other v) (other-bit v) first (x .0) (x .1)))
-      where
-        -- a first ballot carries a proposal, and none is v
-        first : (b : Ballot) → Sent vote events b → b .phase ≡ 1 → b .value ≡ other v
-        first b sb p =
-            let r = K .proposed b sb p in
-            two-bits (b .value) v (K .ledger .start b sb p .0) (decided-bit (K .ledger) (x .0) (x .1) (x .2))
-            (λ z. false-not (means-value (valueOf (vote .proposal (r .0))) v) (not-some (vote .n) test e (r .0) (r .1)) (sym (r .2) ∙ z))
-
--- "a written one stays"
-pub a-written-one-stays : (vote : Vote) (events later : List Event) → Run vote (later ++ events) → AWrittenOneStays vote events later
-a-written-one-stays vote events [] run s h w = refl
-a-written-one-stays vote events (e ∷ later) run s h w =
-    let i = a-written-one-stays vote events later (run .0) s h w in
-    go (eqb (e .head) s) (λ z. w (sym i ∙ z)) ∙ i
-  where
-    go : (t : Bool) → WrittenDecision (headIn vote (later ++ events) s) → cond t (tickOf (headIn vote (later ++ events) s) (e .bytes) (e .coin) .head) (headIn vote (later ++ events) s) .decision ≡ headIn vote (later ++ events) s .decision
-    go true written = tick-keeps-decision (headIn vote (later ++ events) s) (e .bytes) (e .coin) written
-    go false written = refl
+-- "a written one stays", whatever comes later
+pub a-written-one-stays : (vote : Vote) (events later : List Event) → AWrittenOneStays vote events later
+a-written-one-stays = decision-stays
 
 -- "no tick is refused unless its step needs phase 65,536"
-pub no-tick-is-refused-before-the-last-phase : (vote : Vote) (events : List Event) (e : Event) → Run vote (e ∷ events) → NotRefusedBeforeTheLastPhase vote events e
+pub no-tick-is-refused-before-the-last-phase : (vote : Vote) (events : List Event) (e : Event)
+    → Run vote (e ∷ events)
+    → NotRefusedBeforeTheLastPhase vote events e
 no-tick-is-refused-before-the-last-phase vote events e run = event-number vote events e (kept-run vote events (run .0)) (run .1)
 
 -- every head of every run is sound
-pub heads-stay-sound : (vote : Vote) (events : List Event) → Run vote events → (s : ℕ) → s < vote .n → Sound (headIn vote events s)
+pub heads-stay-sound : (vote : Vote) (events : List Event)
+    → Run vote events
+    → (s : ℕ)
+    → s < vote .n
+    → Sound (headIn vote events s)
 heads-stay-sound vote events run = kept-run vote events run .sound
 
 -- "If over half propose one bit and the first ticks are two of document 01's rounds that lose nothing, every head decides
 -- that bit in them."
-pub two-lossless-rounds-decide : (vote : Vote) → Proper vote → (bit : ℕ) → bit < 2 → vote .n < count (vote .n) (λ s. eqb (vote .proposal s) bit) * 2
-    → (first second : ℕ → ℕ) → ((s : ℕ) → s < vote .n → first s < 2) → ((s : ℕ) → s < vote .n → second s < 2)
-    → EveryHeadDecides vote (round vote (round vote [] (lossless first)) (lossless second)) bit
+pub two-lossless-rounds-decide : (vote : Vote)
+    → Proper vote
+    → (bit : ℕ)
+    → bit < 2
+    → vote .n < count (vote .n) (λ s. eqb (vote .proposal s) bit) * 2
+    → (first second : Channel)
+    → LosesNothing vote first
+    → LosesNothing vote second
+    → CoinsAreBits vote first
+    → CoinsAreBits vote second
+    → EveryHeadDecides vote (round vote (round vote [] first) second) bit
 two-lossless-rounds-decide = two-rounds-decide
 
 -- document 01's rounds, whatever they lose, are such runs
-pub rounds-are-runs : (vote : Vote) (events : List Event) (channel : Channel) → Run vote events → ((s : ℕ) → s < vote .n → channel .coin s < 2) → Run vote (round vote events channel)
+pub rounds-are-runs : (vote : Vote) (events : List Event) (channel : Channel)
+    → Run vote events
+    → CoinsAreBits vote channel
+    → Run vote (round vote events channel)
 rounds-are-runs = round-is-run
+
+-- ---- Document 01, 'Sixteen ticks proved of the rules'
+
+pub sixteen-ticks : map (λ (c : Said). c .gives) sixteen ≡ map (λ (c : Said). c .after) sixteen
+sixteen-ticks = each-tick-gives-what-is-said

@@ -5,22 +5,17 @@ use mathlib.Core.List.{List, [], _∷_, _++_}
 use mathlib.Core.Bool.{false}
 use native.Mathlib.Nat.{add-zero, div-add-mod'}
 use native.Mathlib.Omega.{arith}
-use lib.ListN.{length, getD, take, drop}
-use lib.Seq.{getD-take, getD-drop}
+use lib.ListN.{length, getD, take, drop, length-drop}
+use lib.Seq.{getD-take, getD-drop, length-take-le}
 use lib.Dec.{lit<}
 use borrow.Author.Tests.{lt-ltb}
 use Rattle.rules.specs.declared.Ballot.{Ballot}
-use Rattle.rules.specs.Ballot.{valueCode, statusCode, bytesOf, ballotAt, breaksRule, zeroBallot}
-use Rattle.rules.specs.Tick.{ballots}
-use Rattle.rules.specs.Run.{fiveAt}
+use Rattle.rules.specs.Ballot.{valueCode, statusCode, bytesOf, ballotAt, breaksRule, zeroBallot, fiveAt, encode, Bytes}
+use Rattle.rules.specs.Tick.{ballots, tickNumber}
 use Rattle.rules.proofs.Meanings.{means-obeys}
-use Rattle.rules.proofs.Accepted.{Stands}
-use Rattle.rules.proofs.Ballots.{bytes-hold}
-
--- the bytes of the ballots of a list, one after the other
-abbrev pub encode : List Ballot → List ℕ
-encode [] = []
-encode (b ∷ list) = bytesOf b ++ encode list
+use Rattle.rules.proofs.Accepted.{Stands, Codes, tick-accepted}
+use Rattle.rules.proofs.Ballots.{bytes-hold, numbers, number-by-number, high-byte, low-byte}
+use Rattle.rules.specs.declared.Head.{Head}
 
 -- the ballot at an index of a list of ballots
 abbrev pub nth : List Ballot → ℕ → Ballot
@@ -72,3 +67,16 @@ unfolding breaksRule
 five-stands {n} l i b e s =
     simp
     (first-of-five l i, byte-of-five l i 1 (lit< tt), byte-of-five l i 2 (lit< tt), byte-of-five l i 3 (lit< tt), byte-of-five l i 4 (lit< tt), e, div-add-mod' (b .phase) 256, lt-ltb (b .sender) n (s .sender), means-obeys (b .phase) (valueCode (b .value)) (statusCode (b .status)) .1 (s .rules))
+
+-- "every accepted ballot's bytes are the only ones for it", of the ballots that a tick takes
+five-bytes : (l : List ℕ) (i : ℕ) → i < ballots l → length (fiveAt l i) ≡ 5
+five-bytes l i h = length-take-le 5 (drop (i * 5) l) (omega (arith, length-drop (i * 5) l))
+
+pub written-as-its-bytes : (l : List ℕ) (i : ℕ) → Bytes l → i < ballots l → Codes l i → fiveAt l i ≡ bytesOf (ballotAt l i)
+written-as-its-bytes l i small low codes =
+    number-by-number 5 (fiveAt l i) (five-bytes l i low)
+    ∙ (unfold numbers ballotAt in simp (sym (first-of-five l i), sym (byte-of-five l i 1 (lit< tt)), sym (byte-of-five l i 2 (lit< tt)), sym (byte-of-five l i 3 (lit< tt)), sym (byte-of-five l i 4 (lit< tt)), codes .value, codes .status, high-byte (getD l (i * 5 + 3) 0) (getD l (i * 5 + 4) 0) (small (i * 5 + 4)), low-byte (getD l (i * 5 + 3) 0) (getD l (i * 5 + 4) 0) (small (i * 5 + 4))))
+
+pub tick-takes-its-bytes : (h : Head) (l : List ℕ) (coin : ℕ) → Bytes l → tickNumber h l coin ≡ 0
+    → (i : ℕ) → i < ballots l → fiveAt l i ≡ bytesOf (ballotAt l i)
+tick-takes-its-bytes h l coin small e i low = written-as-its-bytes l i small low (tick-accepted h l coin e .codes i low)

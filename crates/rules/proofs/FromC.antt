@@ -14,17 +14,17 @@ use Rattle.rules.specs.Ballot.{readNumber, readBallot}
 use Rattle.rules.specs.Head.{sound, startNumber, startOf, ballotOf}
 use Rattle.rules.specs.Tick.{tickNumber, tickOf}
 use Rattle.rules.specs.Record.{recordOf, isRecord, headAt, notSound, startNumberFromC, recordAfterStart, tickNumberFromC, recordAfterTick, sendNumberFromC, bufferAfterSend}
-use Rattle.rules.specs.Given.{Given, Sound, SoundRecord, startTableFromC, laterTable, tickTableFromC, sendTableFromC}
-use Rattle.rules.proofs.Truth.{Means, means-self, means-as, means-and, means-or, means-not, means-lt, means-eq, false-not}
+use Rattle.rules.specs.Given.{Given, Sound, SoundRecord, startTableFromC, tickTableFromC, sendTableFromC}
+use Rattle.rules.proofs.Truth.{Means, means-self, means-as, means-and, means-or, means-not, means-lt, means-eq, false-not, not-false, not-not}
 use Rattle.rules.proofs.Meanings.{means-heads, means-sound}
 use Rattle.rules.proofs.Answers.{starts-number}
-use Rattle.rules.proofs.Given.{given, tick-given}
+use Rattle.rules.proofs.Given.{given, tick-given, _then_, passed-over, applies}
 use Rattle.rules.proofs.Records.{record-holds, record-is-record}
 use Rattle.rules.proofs.Ballots.{ballot-reads-back}
 use Rattle.rules.proofs.Soundness.{start-sound, tick-sound}
 
 -- what the test of a record means
-pub means-sound-record : (r : List ℕ) → Means (isRecord r && sound (headAt r)) (SoundRecord r)
+means-sound-record : (r : List ℕ) → Means (isRecord r && sound (headAt r)) (SoundRecord r)
 unfolding isRecord
 means-sound-record r =
     means-as
@@ -34,46 +34,56 @@ means-sound-record r =
     (means-and (means-eq (length r) 20) (means-and means-lt (means-and means-lt (means-and means-lt (means-eq (getD r 7 0) 0)))))
     (means-sound (headAt r)))
 
-pub sends-given : (r buffer : List ℕ) (number : ℕ) → (sendNumberFromC r buffer ≡ number) ↔ Given number (sendTableFromC r buffer)
-unfolding sendNumberFromC notSound
-sends-given r buffer =
-    given _ (sendTableFromC r buffer) (refl, means-not (means-sound-record r), (refl, means-not (means-eq (length buffer) 5), tt))
+pub means-not-sound : (r : List ℕ) → Means (notSound r) (SoundRecord r → ⊥)
+unfolding notSound
+means-not-sound r = means-not (means-sound-record r)
 
-pub starts-given : (r : List ℕ) (n own proposal number : ℕ) → (startNumberFromC r n own proposal ≡ number) ↔ Given number (startTableFromC r n own proposal)
+-- where the test is false, the record is sound
+sound-record : (r : List ℕ) → notSound r ≡ false → SoundRecord r
+sound-record r e = not-not (means-sound-record r) (false-not (means-not-sound r) e)
+
+pub sends-given : (r buffer : List ℕ) (number : ℕ)
+    → (sendNumberFromC r buffer ≡ number) ↔ Given number 0 (sendTableFromC r buffer)
+unfolding sendNumberFromC
+sends-given r buffer =
+    given _ (sendTableFromC r buffer) (means-not-sound r then means-not (means-eq (length buffer) 5) then tt)
+
+pub starts-given : (r : List ℕ) (n own proposal number : ℕ)
+    → (startNumberFromC r n own proposal ≡ number) ↔ Given number 0 (startTableFromC r n own proposal)
 unfolding startNumberFromC
 starts-given r n own proposal =
     given _ (startTableFromC r n own proposal)
-    (refl, means-or (means-heads n) (means-not means-lt), (refl, means-lt, (refl, means-not (means-eq (length r) 20), tt)))
+    (means-or (means-heads n) (means-not means-lt) then means-lt then means-not (means-eq (length r) 20) then tt)
 
-pub ticks-given : (r l : List ℕ) (coin number : ℕ) → (tickNumberFromC r l coin ≡ number) ↔ Given number (tickTableFromC r l coin)
+pub ticks-given : (r l : List ℕ) (coin number : ℕ)
+    → (tickNumberFromC r l coin ≡ number) ↔ Given number 0 (tickTableFromC r l coin)
 unfolding tickNumberFromC
-ticks-given r l coin number = go (isRecord r) refl
+ticks-given r l coin number = go (notSound r) refl (means-not-sound r)
   where
-    Later : Type 0
-    Later = Given number (laterTable (headAt r) l coin)
+    Table : Type 0
+    Table = Given number 0 (tickTableFromC r l coin)
 
-    -- where the bytes are a record, it is sound exactly where its head is
-    there : isRecord r ≡ true → Sound (headAt r) → SoundRecord r
-    there e s = means-sound-record r .0 (ap (λ (t : Bool). t && sound (headAt r)) e ∙ means-sound (headAt r) .1 s)
-
-    go : (t : Bool) → isRecord r ≡ t → (cond t (tickNumber (headAt r) l coin) 3 ≡ number) ↔ (((SoundRecord r → ⊥) × (number ≡ 3)) ⊎ (((SoundRecord r → ⊥) → ⊥) × Later))
-    go true e = (
-      λ q. elim (tick-given (headAt r) l coin number .0 q) [ inl x ↦ inl (λ s. x .0 (s .head), x .1) | inr x ↦ inr (λ f. x .0 (λ s. f (there e s)), x .1) ],
-      λ g. tick-given (headAt r) l coin number .1 (elim g [ inl x ↦ inl (λ s. x .0 (there e s), x .1) | inr x ↦ inr (λ f. x .0 (λ s. f (s .head)), x .1) ]),
+    go : (t : Bool) → notSound r ≡ t → Means t (SoundRecord r → ⊥) → (cond t 3 (tickNumber (headAt r) l coin) ≡ number) ↔ Table
+    go true e m = (
+      λ q. inl ((m .0 refl, refl), sym q),
+      λ g. elim g [ inl x ↦ sym (x .1) | inr x ↦ absurd (x .0 0 (m .0 refl, refl)) ],
     )
-    go false e =
-        (λ q. inl (none, sym q), λ g. elim g [ inl x ↦ sym (x .1) | inr x ↦ absurd (x .0 none) ])
-      where
-        none : SoundRecord r → ⊥
-        none = false-not (means-sound-record r) (ap (λ (t : Bool). t && sound (headAt r)) e)
+    go false e m =
+        let same = tick-given (headAt r) l coin number in (
+          λ q. elim (same .0 q) [ inl x ↦ absurd (x .0 .0 (sound-record r e .head)) | inr x ↦ passed-over (false-not m refl) (x .1) ],
+          λ g. elim g [ inl x ↦ absurd (false-not m refl (x .0 .0)) | inr x ↦ same .1 (passed-over (λ f. f (sound-record r e .head)) (x .1)) ],
+        )
 
 -- ---- an accepted start or tick leaves a sound record
 
 written-sound : (h : Head) → Sound h → notSound (recordOf h) ≡ false
-unfolding notSound
-written-sound h s = ap not (means-and (means-self (isRecord (recordOf h))) (means-sound (headAt (recordOf h))) .1 (record-is-record h, subst Sound (sym (record-holds h)) s))
+written-sound h s = not-false (means-not-sound (recordOf h)) (λ none. none (means-sound-record (recordOf h) .0 both))
+  where
+    both : isRecord (recordOf h) && sound (headAt (recordOf h)) ≡ true
+    both = means-and (means-self (isRecord (recordOf h))) (means-sound (headAt (recordOf h))) .1 (record-is-record h, subst Sound (sym (record-holds h)) s)
 
-pub started-record-is-sound : (r : List ℕ) (n own proposal : ℕ) → startNumberFromC r n own proposal ≡ 0 → notSound (recordAfterStart r n own proposal) ≡ false
+pub started-record-is-sound : (r : List ℕ) (n own proposal : ℕ) → startNumberFromC r n own proposal ≡ 0
+    → notSound (recordAfterStart r n own proposal) ≡ false
 unfolding recordAfterStart
 started-record-is-sound r n own proposal e = rw e (written-sound (startOf n own proposal .head) (start-sound n own proposal (taken e)))
   where
@@ -83,16 +93,29 @@ started-record-is-sound r n own proposal e = rw e (written-sound (startOf n own 
         go : (k : ℕ) → cond (eqb k 0) (cond (eqb (length r) 20) 0 3) k ≡ 0 → k ≡ 0
         go k q = elim (ℕ-discrete k 0) [ yes z ↦ z | no z ↦ rw (ne-eqb k 0 z) at q ]
 
+-- what the head in it is asked
+pub ticks-taken : (r l : List ℕ) (coin : ℕ) → tickNumberFromC r l coin ≡ 0 → tickNumber (headAt r) l coin ≡ 0
+unfolding tickNumberFromC
+ticks-taken r l coin = go (notSound r)
+  where
+    go : (t : Bool) → cond t 3 (tickNumber (headAt r) l coin) ≡ 0 → tickNumber (headAt r) l coin ≡ 0
+    go true q = absurd (omega arith)
+    go false q = q
+
 pub ticked-record-is-sound : (r l : List ℕ) (coin : ℕ) → tickNumberFromC r l coin ≡ 0 → notSound (recordAfterTick r l coin) ≡ false
 unfolding recordAfterTick
-ticked-record-is-sound r l coin e = rw e (written-sound (tickOf (headAt r) l coin .head) (tick-sound (headAt r) l coin (taken e)))
+ticked-record-is-sound r l coin e =
+    rw e (written-sound (tickOf (headAt r) l coin .head) (tick-sound (headAt r) l coin (ticks-taken r l coin e)))
+
+-- where the bytes are no record 3 is given, and else what the tick gives
+pub tick-number-from-c : (r l : List ℕ) (coin : ℕ) → tickNumberFromC r l coin ≡ cond (isRecord r) (tickNumber (headAt r) l coin) 3
+unfolding tickNumberFromC notSound
+tick-number-from-c r l coin = go (isRecord r) (sound (headAt r)) refl
   where
-    taken : tickNumberFromC r l coin ≡ 0 → tickNumber (headAt r) l coin ≡ 0
-    taken z = unfold tickNumberFromC in go (isRecord r) z
-      where
-        go : (t : Bool) → cond t (tickNumber (headAt r) l coin) 3 ≡ 0 → tickNumber (headAt r) l coin ≡ 0
-        go true q = q
-        go false q = absurd (omega arith)
+    go : (a b : Bool) → sound (headAt r) ≡ b → cond (not (a && b)) 3 (tickNumber (headAt r) l coin) ≡ cond a (tickNumber (headAt r) l coin) 3
+    go true true e = refl
+    go true false e = sym (tick-given (headAt r) l coin 3 .1 (applies (false-not (means-sound (headAt r)) e)))
+    go false b e = refl
 
 -- ---- an accepted entry leaves what the engine gives by value
 
@@ -106,11 +129,7 @@ ticked-record-holds r l coin e = rw e (record-holds (tickOf (headAt r) l coin .h
 
 pub ballot-from-c-reads-back : (r buffer : List ℕ) → sendNumberFromC r buffer ≡ 0 → (readNumber (headAt r .n) (bufferAfterSend r buffer) ≡ 0) × (readBallot (headAt r .n) (bufferAfterSend r buffer) ≡ ballotOf (headAt r))
 unfolding bufferAfterSend
-ballot-from-c-reads-back r buffer e = rw e (ballot-reads-back (headAt r) (sound-record .head))
+ballot-from-c-reads-back r buffer e = rw e (ballot-reads-back (headAt r) (sound-record r (taken e) .head))
   where
-    sound-record : SoundRecord r
-    sound-record = go (isRecord r && sound (headAt r)) refl
-      where
-        go : (t : Bool) → (isRecord r && sound (headAt r)) ≡ t → SoundRecord r
-        go true q = means-sound-record r .0 q
-        go false q = absurd (elim (sends-given r buffer 0 .0 e) [ inl x ↦ (let z : _≡_ {A = ℕ} 0 3 = x .1 in omega arith) | inr x ↦ x .0 (false-not (means-sound-record r) q) ])
+    taken : sendNumberFromC r buffer ≡ 0 → notSound r ≡ false
+    taken z = not-false (means-not-sound r) (λ f. elim (sends-given r buffer 0 .0 z) [ inl x ↦ omega (arith, x .1) | inr x ↦ x .0 0 (f, refl) ])

@@ -35,3 +35,9 @@ pub mod Runs
 pub mod Phases
 pub mod WrittenOut
 pub mod Demands
+pub mod DemandsApplied
+pub mod AFewNumbers
+pub mod ALateRun
+pub mod RecordsOfAVote
+pub mod HistoryInARun
+pub mod Proposed

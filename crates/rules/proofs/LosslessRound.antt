@@ -14,19 +14,20 @@ use Rattle.rules.specs.declared.Status.the-variants.{Undecided}
 use Rattle.rules.specs.declared.Decision.the-variants.{Unwritten}
 use Rattle.rules.specs.declared.Ballot.{Ballot}
 use Rattle.rules.specs.declared.Head.{Head}
-use Rattle.rules.specs.Ballot.{valueCode, valueOf, bytesOf, ballotAt}
+use Rattle.rules.specs.Ballot.{valueCode, valueOf, bytesOf, ballotAt, fiveAt}
 use Rattle.rules.specs.Heard.{member, heard}
 use Rattle.rules.specs.Head.{anyHeard, ballotOf}
-use Rattle.rules.specs.Tick.{ballots, moved, heardWith, added, gathered, bitWith, stepValue, stepStatus, risen, stepped, settled, tickNumber, tickOf}
-use Rattle.rules.specs.Given.{Heads, Obeys, Breaks, Hears, Sound, OwnOtherwise, Differ, SomeBallot, HeardAtAll, DecidesOtherwise}
-use Rattle.rules.specs.Run.{Vote, Event, headIn, fiveAt}
-use Rattle.rules.specs.Round.{received, round, lossless}
+use Rattle.rules.specs.Tick.{ballots, moved, heardWith, added, gathered, stepValue, stepStatus, risen, stepped, settled, tickNumber, tickOf}
+use Rattle.rules.specs.Choice.{bitWith}
+use Rattle.rules.specs.Given.{Heads, Obeys, Breaks, Hears, Sound, OwnOtherwise, Differ, SomeBallot, HeardAtAll, DecidesOtherwise, Says}
+use Rattle.rules.specs.Run.{Vote, Event, headIn}
+use Rattle.rules.specs.Round.{Channel, received, round, LosesNothing, CoinsAreBits}
 use Rattle.rules.proofs.Truth.{Means, means-as, means-same, false-not}
 use Rattle.rules.proofs.Sets.{set-same, setOf-lt}
-use Rattle.rules.proofs.Given.{means-breaks, tick-given}
+use Rattle.rules.proofs.Given.{means-breaks, tick-given, passed-over, none-applies}
 use Rattle.rules.proofs.Meanings.{hears-nobody}
 use Rattle.rules.proofs.TheBit.{coin-bit, bit-kept}
-use Rattle.rules.proofs.Senders.{Moves, stays, copies, moves, Says, means-heard}
+use Rattle.rules.proofs.Senders.{Moves, stays, copies, moves, means-heard}
 use Rattle.rules.proofs.Encoding.{five-reads, five-stands}
 use Rattle.rules.proofs.HearingAll.{having, hearing, having-lt, means-having, all-heard}
 use Rattle.rules.proofs.Rounds.{ticked-once, lossless-length, lossless-five}
@@ -174,31 +175,16 @@ module _ {n phase : ℕ} {value : ℕ → Value} {s : ℕ} {l : List ℕ} {coin 
   accepted : tickNumber (level n phase value s) l coin ≡ 0
   accepted =
       tick-given (level n phase value s) l coin 0 .1
-      (inr (
-        λ f. f sound-before,
-        inr (
-          λ x. omega arith,
-          inr (
-            λ x. elim x [ inl f ↦ f (omega arith) | inr y ↦ omega (arith, g .at .heads .1) ],
-            inr (
-              λ x. obeyed (x .0) (x .1) (x .2),
-              inr (
-                λ x. own-is (x .0) (x .1) (x .2),
-                inr (
-                  λ x. elim x [ inl y ↦ once (y .0) (y .2 .0) (y .1) (y .2 .1) (y .2 .2) | inr y ↦ nobody (y .2 .1 .0) _ (y .2 .1 .1) ],
-                  inr (
-                    λ x. both (rw hears-all at x),
-                    inr (
-                      λ x. omega (arith, x .1, ap (λ (k : Head). k .phase) hears-all, g .at .early),
-                      inr (λ x. fits (hearing n phase value s) coin (g .bit) refl refl (rw steps at x), refl),
-                    ),
-                  ),
-                ),
-              ),
-            ),
-          ),
-        ),
-      ))
+      (passed-over (λ f. f sound-before)
+      (passed-over (λ x. omega arith)
+      (passed-over (λ x. elim x [ inl f ↦ f (omega arith) | inr y ↦ omega (arith, g .at .heads .1) ])
+      (passed-over (λ x. obeyed (x .0) (x .1) (x .2))
+      (passed-over (λ x. own-is (x .0) (x .1) (x .2))
+      (passed-over
+      (λ x. elim x [ inl y ↦ once (y .0) (y .2 .0) (y .1) (y .2 .1) (y .2 .2) | inr y ↦ nobody (y .2 .1 .0) _ (y .2 .1 .1) ])
+      (passed-over (λ x. both (rw hears-all at x))
+      (passed-over (λ x. omega (arith, x .1, ap (λ (k : Head). k .phase) hears-all, g .at .early))
+      (passed-over (λ x. fits (hearing n phase value s) coin (g .bit) refl refl (rw steps at x)) none-applies)))))))))
     where
       both : (phase % 2 ≡ 0) × HeardAtAll (hearing n phase value s) Zero × HeardAtAll (hearing n phase value s) One → ⊥
       both x =
@@ -221,20 +207,20 @@ pub record AllAt (vote : Vote) (events : List Event) (phase : ℕ) (value : ℕ 
 
 -- after a round that loses nothing no tick was refused, and every head has heard everybody and risen
 pub lossless-round : {vote : Vote} {before : List Event} {phase : ℕ} {value : ℕ → Value} → AllAt vote before phase value
-    → (coin : ℕ → ℕ) → ((s : ℕ) → s < vote .n → coin s < 2) → (s : ℕ) → s < vote .n
-    → (tickNumber (headIn vote before s) (received vote before (lossless coin) s (vote .n)) (coin s) ≡ 0)
-    × (headIn vote (round vote before (lossless coin)) s ≡ settled (risen (hearing (vote .n) phase value s) (coin s)))
-lossless-round {vote} {before} {phase} {value} all coin bits s h = (
+    → (channel : Channel) → LosesNothing vote channel → CoinsAreBits vote channel → (s : ℕ) → s < vote .n
+    → (tickNumber (headIn vote before s) (received vote before channel s (vote .n)) (channel .coin s) ≡ 0)
+    × (headIn vote (round vote before channel) s ≡ settled (risen (hearing (vote .n) phase value s) (channel .coin s)))
+lossless-round {vote} {before} {phase} {value} all channel none bits s h = (
   rw (all .states s h) (accepted gets),
-  ticked-once vote before (lossless coin) (vote .n) s h ∙ rw (all .states s h) (ticked gets),
+  ticked-once vote before channel (vote .n) s h ∙ rw (all .states s h) (ticked gets),
 )
   where
-    gets : Gets (vote .n) phase value s (received vote before (lossless coin) s (vote .n)) (coin s)
+    gets : Gets (vote .n) phase value s (received vote before channel s (vote .n)) (channel .coin s)
     gets =
         record {
           at = all .at;
           low = h;
           bit = bits s h;
-          whole = lossless-length vote before coin s;
-          five = λ i b. lossless-five vote before coin s i b ∙ ap (λ (k : Head). bytesOf (ballotOf k)) (all .states i b);
+          whole = lossless-length vote before channel none s h;
+          five = λ i b. lossless-five vote before channel none s h i b ∙ ap (λ (k : Head). bytesOf (ballotOf k)) (all .states i b);
         }

@@ -20,14 +20,15 @@ use Rattle.rules.specs.Below.{count}
 use Rattle.rules.specs.Ballot.{valueCode, valueOf, ballotAt, breaksRule}
 use Rattle.rules.specs.Heard.{member, size, heard}
 use Rattle.rules.specs.Head.{decisionFor, anyHeard, ballotOf}
-use Rattle.rules.specs.Tick.{ballots, moved, added, gathered, quorum, majority, bitWith, stepValue, stepStatus, risen, stepped, tickNumber}
-use Rattle.rules.specs.Given.{_exactly-when_, Given, Heads, Breaks, Hears, Sound, OwnOtherwise, Differ, HeldOtherwise, SomeBallot, TwoBallots, HeardAtAll, Quorum, DecidesOtherwise}
+use Rattle.rules.specs.Tick.{ballots, moved, added, gathered, quorum, majority, stepValue, stepStatus, risen, stepped, tickNumber}
+use Rattle.rules.specs.Choice.{bitWith}
+use Rattle.rules.specs.Given.{_exactly-when_, Given, Heads, Breaks, Hears, Sound, OwnOtherwise, Differ, HeldOtherwise, SomeBallot, TwoBallots, HeardAtAll, Quorum, DecidesOtherwise, HeldOrSent}
 use Rattle.rules.specs.Run.{Vote, Event, headIn, Sent, Allowed, NotRefusedBeforeTheLastPhase}
 use Rattle.rules.proofs.Truth.{Means, means-self, means-or, means-lt, false-not}
 use Rattle.rules.proofs.Sets.{means-any}
-use Rattle.rules.proofs.Given.{means-breaks, tick-given}
+use Rattle.rules.proofs.Given.{means-breaks, tick-given, passed-over, applies, none-applies}
 use Rattle.rules.proofs.Accepted.{Stands}
-use Rattle.rules.proofs.Senders.{Moves, stays, copies, moves, gathered-same, HeldOrSent, heard-from}
+use Rattle.rules.proofs.Senders.{Moves, stays, copies, moves, gathered-same, heard-from}
 use Rattle.rules.proofs.TheBit.{Bit, zero-bit, one-bit, coin-bit, bit-kept, bit-with, bit-from}
 use Rattle.rules.proofs.Counting.{count-within, count-either, meet}
 use Rattle.rules.proofs.Ledger.{Kind, lock, settle, Rule, Voted, Justified, Ledger, Fits, ledger-with, settle-one-bit, decided-bit, decided-agree}
@@ -299,19 +300,19 @@ module _ (vote : Vote) (events : List Event) (e : Event) (K : Kept vote events) 
       both x = unfold gathered added in let z = settle-heard (x .0) Zero One (x .1 .0) (x .2 .0) zero-bit one-bit (x .1 .1) (x .2 .1) in let q : _≡_ {A = ℕ} 0 1 = cc in omega arith
 
       -- none of 3 to 9 applies: 10 or 11 does, or 0 is given
-      past-9 : (number : ℕ) → Given number ((10 exactly-when (Quorum after12 × (65536 ≤ after12 .phase + 1))) ∷ (11 exactly-when DecidesOtherwise (stepped after12 (e .coin))) ∷ []) → tickNumber before (e .bytes) (e .coin) ≡ number
+      past-9 : (number : ℕ) → Given number 0 ((10 exactly-when (Quorum after12 × (65536 ≤ after12 .phase + 1))) ∷ (11 exactly-when DecidesOtherwise (stepped after12 (e .coin))) ∷ []) → tickNumber before (e .bytes) (e .coin) ≡ number
       past-9 number later =
           tick-given before (e .bytes) (e .coin) number .1
-          (inr (
-            λ f. f (K .sound (e .head) (A .head)),
-            inr (λ l. omega (arith, A .bit), inr (list, inr (rules, inr (λ x. own-fits (x .0) (x .1) (x .2), inr (apart-values, inr (both, later)))))),
-          ))
+          (passed-over (λ f. f (K .sound (e .head) (A .head)))
+          (passed-over (λ l. omega (arith, A .bit))
+          (passed-over list
+          (passed-over rules (passed-over (λ x. own-fits (x .0) (x .1) (x .2)) (passed-over apart-values (passed-over both later)))))))
 
       accepted : (Quorum after12 × (65536 ≤ after12 .phase + 1) → ⊥) → tickNumber before (e .bytes) (e .coin) ≡ 0
-      accepted n = past-9 0 (inr (n, inr (decides-alike, refl)))
+      accepted n = past-9 0 (passed-over n (passed-over decides-alike none-applies))
 
       ended : Quorum after12 × (65536 ≤ after12 .phase + 1) → tickNumber before (e .bytes) (e .coin) ≡ 10
-      ended p = past-9 10 (inl (p, refl))
+      ended p = past-9 10 (applies p)
 
       last : after12 .phase ≤ 65535
       last = unfold gathered added in let r = moved-state in omega (arith, r .2, K .low (r .0) (r .1))

@@ -15,13 +15,13 @@ use Rattle.rules.specs.declared.Status.the-variants.{Undecided, Decided}
 use Rattle.rules.specs.declared.Decision.{Decision}
 use Rattle.rules.specs.declared.Decision.the-variants.{Zero as ForZero, One as ForOne, Unwritten}
 use Rattle.rules.specs.declared.Head.{Head}
-use Rattle.rules.specs.Ballot.{valueCode, statusCode}
+use Rattle.rules.specs.Ballot.{valueCode, statusCode, Bytes}
 use Rattle.rules.specs.Head.{decisionCode}
 use Rattle.rules.specs.Record.{recordOf, isRecord, decisionOf, headAt}
 use Rattle.rules.proofs.Truth.{and-left, and-right}
 use Rattle.rules.proofs.Meanings.{value-back, status-back, decision-back}
 use Rattle.rules.proofs.Accepted.{value-code-back, status-code-back}
-use Rattle.rules.proofs.Ballots.{Bytes, numbers, number-by-number, high-byte, low-byte}
+use Rattle.rules.proofs.Ballots.{numbers, number-by-number, high-byte, low-byte}
 
 word-back : (x : ℕ) → ((x / 16777216 * 256 + x / 65536 % 256) * 256 + x / 256 % 256) * 256 + x % 256 ≡ x
 word-back x = omega arith

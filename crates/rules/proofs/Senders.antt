@@ -16,7 +16,7 @@ use Rattle.rules.specs.Below.{some}
 use Rattle.rules.specs.Ballot.{ballotAt}
 use Rattle.rules.specs.Heard.{member, heard, says}
 use Rattle.rules.specs.Tick.{ballots, leader, copying, moved, heardWith, added, gathered, quorum, risen, stepped, settled, tickNumber, tickOf}
-use Rattle.rules.specs.Given.{Hears, SomeBallot}
+use Rattle.rules.specs.Given.{Hears, SomeBallot, Says, HeldOrSent}
 use Rattle.rules.proofs.Truth.{Means, never, means-as, means-self, means-and, means-or, means-eq}
 use Rattle.rules.proofs.Below.{means-some, not-some}
 use Rattle.rules.proofs.Sets.{member-high, member-setOf, setOf-lt}
@@ -64,10 +64,6 @@ gathered-same h l = moved-same h l
 
 -- ---- step 1
 
--- b is a ballot of head s at that phase with that value
-abbrev pub Says : ℕ → Value → ℕ → Ballot → Type 0
-Says phase v s b = (b .phase ≡ phase) × (b .sender ≡ s) × (b .value ≡ v)
-
 means-says : (phase : ℕ) (v : Value) (s : ℕ) (b : Ballot) → Means (says phase v s b) (Says phase v s b)
 unfolding says
 means-says phase v s b =
@@ -94,11 +90,6 @@ heard-low h l v s e = elim (decLt s 32) [ yes b ↦ b | no b ↦ never (sym (mem
     low Zero = setOf-lt 32 _
     low One = setOf-lt 32 _
     low Blank = setOf-lt 32 _
-
--- whoever is heard after steps 1 and 2 was held, the phase being the same, or sent a ballot of the phase with the value
-abbrev pub HeldOrSent : Head → List ℕ → Value → ℕ → Type 0
-HeldOrSent h l v s =
-    ((moved h l .phase ≡ h .phase) × Hears h v s) ⊎ SomeBallot l (λ i. Says (moved h l .phase) v s (ballotAt l i))
 
 -- who is held at the phase that step 2 leaves
 held-then : (h : Head) (l : List ℕ) (v : Value) (s : ℕ) → Hears (moved h l) v s → (moved h l .phase ≡ h .phase) × Hears h v s
@@ -128,6 +119,9 @@ heard-exactly h l coin a v s = (heard-from h l v s, back)
 
     back : HeldOrSent h l v s → Hears (gathered h l) v s
     back x = means-heard h l v s (low x) .1 (elim x [ inl y ↦ inl (held-still h l v s (y .0) (y .1)) | inr y ↦ inr y ])
+
+pub hears-exactly : (h : Head) (l : List ℕ) (coin : ℕ) → tickNumber h l coin ≡ 0 → (v : Value) (s : ℕ) → Hears (gathered h l) v s ↔ HeldOrSent h l v s
+hears-exactly h l coin e = heard-exactly h l coin (tick-accepted h l coin e)
 
 -- and after the tick: exactly those where it did not step, and nobody where it did
 pub tick-hears : (h : Head) (l : List ℕ) (coin : ℕ) → tickNumber h l coin ≡ 0 → (v : Value) (s : ℕ) → Hears (tickOf h l coin .head) v s ↔ ((quorum (gathered h l) ≡ false) × HeldOrSent h l v s)

@@ -19,13 +19,13 @@ use Rattle.rules.specs.Below.{count}
 use Rattle.rules.specs.Heard.{member, size, overHalf, heard}
 use Rattle.rules.specs.Head.{decisionFor, isDecided, fresh, sound, startNumber, startOf}
 use Rattle.rules.specs.Tick.{ballots, moved, added, gathered, quorum, majority, stepValue, stepStatus, risen, stepped, settled, tickNumber, tickOf}
-use Rattle.rules.specs.Given.{Heads, Obeys, first, second, odd, even, Hears, Sound, DecidesOtherwise}
+use Rattle.rules.specs.Given.{Heads, Obeys, first, second, odd, even, Hears, Sound, DecidesOtherwise, Says, HeldOrSent}
 use Rattle.rules.proofs.Truth.{false-not, not-not}
 use Rattle.rules.proofs.Counting.{count-within, meet}
 use Rattle.rules.proofs.Meanings.{means-value, means-decided, hears-nobody}
 use Rattle.rules.proofs.TheBit.{bit-code, bit-kept, coin-bit}
 use Rattle.rules.proofs.Accepted.{Accepted, value-code-back, start-accepted, tick-accepted}
-use Rattle.rules.proofs.Senders.{Moves, stays, copies, moves, Says, HeldOrSent, gathered-same, heard-from}
+use Rattle.rules.proofs.Senders.{Moves, stays, copies, moves, gathered-same, heard-from}
 
 -- ---- small facts
 

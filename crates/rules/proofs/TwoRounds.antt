@@ -18,7 +18,7 @@ use Rattle.rules.specs.Head.{decisionFor, anyHeard}
 use Rattle.rules.specs.Tick.{majority, stepValue, stepStatus, risen, settled}
 use Rattle.rules.specs.Given.{first, second}
 use Rattle.rules.specs.Run.{Vote, Proper, EveryHeadDecides}
-use Rattle.rules.specs.Round.{round, lossless}
+use Rattle.rules.specs.Round.{Channel, round, LosesNothing, CoinsAreBits}
 use Rattle.rules.proofs.Truth.{means-self, means-or, not-not}
 use Rattle.rules.proofs.Below.{count-same}
 use Rattle.rules.proofs.Meanings.{means-value}
@@ -72,11 +72,13 @@ second-step n s v coin many few bit = rw (decided, taken)
 
 -- "If over half propose one bit and the first ticks are two of document 01's rounds that lose nothing, every head decides
 -- that bit in them."
-pub two-rounds-decide : (vote : Vote) → Proper vote → (bit : ℕ) → bit < 2 → vote .n < count (vote .n) (λ s. eqb (vote .proposal s) bit) * 2
-    → (first second : ℕ → ℕ) → ((s : ℕ) → s < vote .n → first s < 2) → ((s : ℕ) → s < vote .n → second s < 2)
-    → EveryHeadDecides vote (round vote (round vote [] (lossless first)) (lossless second)) bit
-two-rounds-decide vote proper bit low most one two ones twos s h =
-    ap (λ (k : Head). k .decision) (lossless-round after two twos s h .1) ∙ second-step (vote .n) s v (two s) (proper .heads .0) (proper .heads .1) bit-value
+pub two-rounds-decide : (vote : Vote) → Proper vote
+    → (bit : ℕ) → bit < 2 → vote .n < count (vote .n) (λ s. eqb (vote .proposal s) bit) * 2
+    → (first second : Channel) → LosesNothing vote first → LosesNothing vote second → CoinsAreBits vote first → CoinsAreBits vote second
+    → EveryHeadDecides vote (round vote (round vote [] first) second) bit
+two-rounds-decide vote proper bit low most one two lossless-one lossless-two ones twos s h =
+    ap (λ (k : Head). k .decision) (lossless-round after two lossless-two twos s h .1)
+    ∙ second-step (vote .n) s v (two .coin s) (proper .heads .0) (proper .heads .1) bit-value
   where
     v : Value
     v = valueOf bit
@@ -109,7 +111,7 @@ two-rounds-decide vote proper bit low most one two ones twos s h =
         }
 
     -- between them
-    after : AllAt vote (round vote [] (lossless one)) 2 (λ t. v)
+    after : AllAt vote (round vote [] one) 2 (λ t. v)
     after =
         record {
           at =
@@ -119,5 +121,5 @@ two-rounds-decide vote proper bit low most one two ones twos s h =
                 rules = λ t b. second refl (omega (arith, value-code-back bit (omega arith))) refl;
                 even = λ o t u b c p q. let z : _≡_ {A = ℕ} 0 1 = cc in omega arith;
               };
-          states = λ t b. lossless-round start one ones t b .1 ∙ first-step (vote .n) t proposed v (one t) (proper .heads .1) bit-value over-half;
+          states = λ t b. lossless-round start one lossless-one ones t b .1 ∙ first-step (vote .n) t proposed v (one .coin t) (proper .heads .1) bit-value over-half;
         }

@@ -16,15 +16,21 @@ use Rattle.rules.specs.Below.{count}
 use Rattle.rules.specs.Ballot.{valueOf, statusCode, sameValue, zeroBallot}
 use Rattle.rules.specs.Heard.{overHalf}
 use Rattle.rules.specs.Head.{decisionFor}
-use Rattle.rules.specs.Tick.{ahead, bitWith}
+use Rattle.rules.specs.Choice.{ahead, bitWith}
 
--- a process: φ, v, status and decision, and V, all ballots heard so far
+-- process i of n: φ, v, status and decision, and V, all ballots heard so far
 pub record Process : Type 0 where
+  pub n : ℕ
+  pub own : ℕ
   pub phase : ℕ
   pub value : Value
   pub status : Status
   pub decision : Decision
   pub heardSoFar : List Ballot
+
+abbrev pub processWith : ℕ → ℕ → ℕ → Value → Status → Decision → List Ballot → Process
+processWith n own phase value status decision all =
+    record { n = n; own = own; phase = phase; value = value; status = status; decision = decision; heardSoFar = all }
 
 -- some message of V
 abbrev pub someIn : List Ballot → (Ballot → Bool) → Bool
@@ -32,18 +38,20 @@ someIn [] p = false
 someIn (b ∷ all) p = p b || someIn all p
 
 -- how many of the n processes sent a message of V of which p holds: "counted by sender"
-abbrev pub senders : ℕ → List Ballot → (Ballot → Bool) → ℕ
-senders n all p = count n (λ s. someIn all (λ b. eqb (b .sender) s && p b))
+abbrev pub senders : Process → (Ballot → Bool) → ℕ
+senders i p = count (i .n) (λ s. someIn (i .heardSoFar) (λ b. eqb (b .sender) s && p b))
 
 -- lines 1 to 4: φ ← 1; v ← proposal; status ← undecided; V ← ∅
-abbrev pub begun : ℕ → Process
-begun proposal =
-    record { phase = 1; value = valueOf proposal; status = Undecided; decision = Unwritten; heardSoFar = [] }
+abbrev pub lines1to4 : ℕ → ℕ → ℕ → Process
+lines1to4 n own proposal = processWith n own 1 (valueOf proposal) Undecided Unwritten []
+
+-- line 6: broadcast ⟨i, φ, v, status⟩
+abbrev pub line6 : Process → Ballot
+line6 i = record { sender = i .own; value = i .value; status = i .status; phase = i .phase }
 
 -- line 8: V ← V ∪ M
 abbrev pub line8 : Process → List Ballot → Process
-line8 i M =
-    record { phase = i .phase; value = i .value; status = i .status; decision = i .decision; heardSoFar = M ++ i .heardSoFar }
+line8 i M = processWith (i .n) (i .own) (i .phase) (i .value) (i .status) (i .decision) (M ++ i .heardSoFar)
 
 -- the message that lines 9 to 13 end at, by document 01's choice: the first of V that none of V is ahead of
 abbrev pub foremost : List Ballot → List Ballot → Ballot
@@ -52,53 +60,51 @@ foremost all (b ∷ rest) = cond (not (someIn all (λ c. ahead c b))) b (foremos
 
 -- lines 10 to 12: φ ← φ′; v ← v′; status ← status′
 abbrev pub lines10to12 : Process → Ballot → Process
-lines10to12 i b =
-    record { phase = b .phase; value = b .value; status = b .status; decision = i .decision; heardSoFar = i .heardSoFar }
+lines10to12 i b = processWith (i .n) (i .own) (b .phase) (b .value) (b .status) (i .decision) (i .heardSoFar)
 
 -- lines 9 to 13: while some ⟨*, φ′, v′, status′⟩ of V has φ′ > φ
 unfoldable pub lines9to13 : Process → Process
 lines9to13 i =
-    cond (someIn (i .heardSoFar) (λ b. ltb (i .phase) (b .phase))) (lines10to12 i (foremost (i .heardSoFar) (i .heardSoFar))) i
+    let all = i .heardSoFar in
+    cond (someIn all (λ b. ltb (i .phase) (b .phase))) (lines10to12 i (foremost all all)) i
 
 -- ⟨*, φ, *, *⟩ ∈ V with φ = φ_i, and ⟨*, φ, v, *⟩ ∈ V with φ = φ_i
-abbrev pub atPhase : Process → ℕ → ℕ
-atPhase i n = senders n (i .heardSoFar) (λ b. eqb (b .phase) (i .phase))
+abbrev pub atPhase : Process → ℕ
+atPhase i = senders i (λ b. eqb (b .phase) (i .phase))
 
-abbrev pub atPhaseWith : Process → ℕ → Value → ℕ
-atPhaseWith i n v = senders n (i .heardSoFar) (λ b. eqb (b .phase) (i .phase) && sameValue (b .value) v)
+abbrev pub atPhaseWith : Process → Value → ℕ
+atPhaseWith i v = senders i (λ b. eqb (b .phase) (i .phase) && sameValue (b .value) v)
 
 -- lines 16 to 20: the v in {0, 1} with over half, else ⊥
-unfoldable pub lines16to20 : Process → ℕ → Value
-lines16to20 i n = bitWith (λ v. overHalf n (atPhaseWith i n v)) Blank
+unfoldable pub lines16to20 : Process → Value
+lines16to20 i = bitWith (λ v. overHalf (i .n) (atPhaseWith i v)) Blank
 
 -- lines 22 to 24: if some v in {0, 1} has over half, status ← decided
-unfoldable pub lines22to24 : Process → ℕ → Status
-lines22to24 i n = cond (overHalf n (atPhaseWith i n Zero) || overHalf n (atPhaseWith i n One)) Decided (i .status)
+unfoldable pub lines22to24 : Process → Status
+lines22to24 i =
+    cond (overHalf (i .n) (atPhaseWith i Zero) || overHalf (i .n) (atPhaseWith i One)) Decided (i .status)
 
 -- lines 25 to 29: the v in {0, 1} with at least one, else the coin
-unfoldable pub lines25to29 : Process → ℕ → ℕ → Value
-lines25to29 i n coin = bitWith (λ v. leb 1 (atPhaseWith i n v)) (valueOf coin)
+unfoldable pub lines25to29 : Process → ℕ → Value
+lines25to29 i coin = bitWith (λ v. leb 1 (atPhaseWith i v)) (valueOf coin)
+
+-- line 31: φ ← φ + 1, with the v and the status of the lines before
+abbrev pub line31 : Process → Value → Status → Process
+line31 i v status = processWith (i .n) (i .own) (i .phase + 1) v status (i .decision) (i .heardSoFar)
 
 -- lines 14 to 32
-unfoldable pub lines14to32 : Process → ℕ → ℕ → Process
-lines14to32 i n coin =
-    cond (overHalf n (atPhase i n))
-    (cond (eqb (i .phase % 2) 1)
-    (record { phase = i .phase + 1; value = lines16to20 i n; status = i .status; decision = i .decision; heardSoFar = i .heardSoFar })
-    (record { phase = i .phase + 1; value = lines25to29 i n coin; status = lines22to24 i n; decision = i .decision; heardSoFar = i .heardSoFar }))
+unfoldable pub lines14to32 : Process → ℕ → Process
+lines14to32 i coin =
+    cond (overHalf (i .n) (atPhase i))
+    (cond (eqb (i .phase % 2) 1) (line31 i (lines16to20 i) (i .status)) (line31 i (lines25to29 i coin) (lines22to24 i)))
     i
 
 -- lines 33 to 35: if status = decided, decision ← v
 unfoldable pub lines33to35 : Process → Process
 lines33to35 i =
-    record {
-      phase = i .phase;
-      value = i .value;
-      status = i .status;
-      decision = cond (eqb (statusCode (i .status)) 1) (decisionFor (i .value)) (i .decision);
-      heardSoFar = i .heardSoFar;
-    }
+    let decision = cond (eqb (statusCode (i .status)) 1) (decisionFor (i .value)) (i .decision) in
+    processWith (i .n) (i .own) (i .phase) (i .value) (i .status) decision (i .heardSoFar)
 
--- one clock tick of process i among n, that receives M (line 7) and draws the coin (line 28)
-unfoldable pub clockTick : ℕ → Process → List Ballot → ℕ → Process
-clockTick n i M coin = lines33to35 (lines14to32 (lines9to13 (line8 i M)) n coin)
+-- one clock tick of process i, that receives M (line 7) and draws the coin (line 28)
+unfoldable pub clockTick : Process → List Ballot → ℕ → Process
+clockTick i M coin = lines33to35 (lines14to32 (lines9to13 (line8 i M)) coin)

@@ -1,8 +1,8 @@
 -- Ballots: their bytes, the ballot rules, reading one. Document 01, 'Heads and ballots'.
-use Prim.Native.Nat.{ℕ, _+_, _*_, _/_, _%_}
-use mathlib.Core.List.{List, [], _∷_}
+use Prim.Native.Nat.{ℕ, _+_, _*_, _/_, _%_, _<_}
+use mathlib.Core.List.{List, [], _∷_, _++_}
 use mathlib.Core.Bool.{Bool, false, cond, _&&_, not}
-use lib.ListN.{length, getD}
+use lib.ListN.{length, getD, take, drop}
 use lib.Dec.{ltb, leb, eqb}
 use Rattle.rules.specs.declared.Value.{Value}
 use Rattle.rules.specs.declared.Value.the-variants.{Zero, One, Blank}
@@ -41,6 +41,18 @@ sameStatus s t = eqb (statusCode s) (statusCode t)
 -- "Five bytes: sender; value 0, 1 or 2 (blank); status 0 or 1 (decided); phase, high byte first."
 abbrev pub bytesOf : Ballot → List ℕ
 bytesOf b = b .sender ∷ valueCode (b .value) ∷ statusCode (b .status) ∷ b .phase / 256 ∷ b .phase % 256 ∷ []
+
+-- the bytes of a list of ballots, one after the other; and the five bytes at index i of such a list
+abbrev pub encode : List Ballot → List ℕ
+encode [] = []
+encode (b ∷ list) = bytesOf b ++ encode list
+
+abbrev pub fiveAt : List ℕ → ℕ → List ℕ
+fiveAt l i = take 5 (drop (i * 5) l)
+
+-- each is a byte
+abbrev pub Bytes : List ℕ → Type 0
+Bytes l = (i : ℕ) → getD l i 0 < 256
 
 -- The ballot that the five bytes at index i of a list of ballots write. A code that is none is read as the
 -- last one: such a ballot breaks a ballot rule, which is tested on its bytes before anything looks at it.

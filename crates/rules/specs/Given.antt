@@ -15,18 +15,28 @@ use Rattle.rules.specs.declared.Head.{Head}
 use Rattle.rules.specs.Ballot.{valueCode, statusCode, phaseAt, ballotAt}
 use Rattle.rules.specs.Heard.{member, size, heard}
 use Rattle.rules.specs.Head.{decisionFor}
-use Rattle.rules.specs.Tick.{ballots, gathered, stepped}
+use Rattle.rules.specs.Tick.{ballots, moved, gathered, stepped}
 use Rattle.rules.specs.Record.{headAt}
 
-infix 40 _exactly-when_
--- a line of the table
+infix 40 _exactly-at_ _exactly-when_
+-- a line of the table: a number, and what must hold of the place that is given with it
 pub data Row : Type 1 where
-  _exactly-when_ : ℕ → Type 0 → Row
+  _exactly-at_ : ℕ → (ℕ → Type 0) → Row
 
--- number is given by the table: its line holds and no earlier one does; 0 where none holds
-abbrev pub Given : ℕ → List Row → Type 0
-Given number [] = number ≡ 0
-Given number ((k exactly-when P) ∷ later) = (P × (number ≡ k)) ⊎ ((P → ⊥) × Given number later)
+-- P holds, and the place is this one
+abbrev pub At : ℕ → Type 0 → ℕ → Type 0
+At this P place = P × (place ≡ this)
+
+-- a line that names no place: it is 0
+abbrev pub _exactly-when_ : ℕ → Type 0 → Row
+number exactly-when P = number exactly-at At 0 P
+
+-- "The first that applies, in this order": number's line applies at the place, and no earlier line applies anywhere; "0 is
+-- accepted", where none does
+abbrev pub Given : ℕ → ℕ → List Row → Type 0
+Given number place [] = (number ≡ 0) × (place ≡ 0)
+Given number place ((k exactly-at Applies) ∷ later) =
+    (Applies place × (number ≡ k)) ⊎ (((p : ℕ) → Applies p → ⊥) × Given number place later)
 
 -- "n .. 2 to 32"
 abbrev pub Heads : ℕ → Type 0
@@ -50,6 +60,10 @@ Breaks n l i = (getD l (i * 5) 0 < n) × Obeys (phaseAt l i) (getD l (i * 5 + 1)
 -- head s is heard with v
 abbrev pub Hears : Head → Value → ℕ → Type 0
 Hears h v s = member s (heard h v) ≡ true
+
+-- b is a ballot of head s at that phase with that value
+abbrev pub Says : ℕ → Value → ℕ → Ballot → Type 0
+Says phase v s b = (b .phase ≡ phase) × (b .sender ≡ s) × (b .value ≡ v)
 
 -- "the decision is there"
 abbrev pub WrittenDecision : Head → Type 0
@@ -99,6 +113,13 @@ SomeBallot l P = (i : ℕ) × (i < ballots l) × P i
 
 abbrev pub TwoBallots : List ℕ → (Ballot → Ballot → Type 0) → Type 0
 TwoBallots l P = SomeBallot l (λ i. (j : ℕ) × (j < i) × P (ballotAt l j) (ballotAt l i))
+
+-- Whom a head hears after steps 1 and 2: those held under v before, if it is at the same phase still, and the senders of the
+-- ballots of its phase that say v.
+abbrev pub HeldOrSent : Head → List ℕ → Value → ℕ → Type 0
+HeldOrSent h l v s =
+    let phase = moved h l .phase in
+    ((phase ≡ h .phase) × Hears h v s) ⊎ SomeBallot l (λ i. Says phase v s (ballotAt l i))
 
 -- somebody is heard with v
 abbrev pub HeardAtAll : Head → Value → Type 0
@@ -156,11 +177,13 @@ laterTable h l coin =
     ∷ (11 exactly-when DecidesOtherwise (stepped (gathered h l) coin))
     ∷ []
 
+-- "head not sound"
 abbrev pub tickTable : Head → List ℕ → ℕ → List Row
-tickTable h l coin =
-    -- "head not sound"
-    (3 exactly-when (Sound h → ⊥))
-    ∷ laterTable h l coin
+tickTable h l coin = (3 exactly-when (Sound h → ⊥)) ∷ laterTable h l coin
+
+-- "of an unsound one refusal 3"
+abbrev pub sendTable : Head → List Row
+sendTable h = (3 exactly-when (Sound h → ⊥)) ∷ []
 
 -- ---- the same from C
 

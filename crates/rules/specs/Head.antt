@@ -5,6 +5,7 @@ use mathlib.Core.Bool.{Bool, cond, _&&_, _||_, not}
 use lib.Dec.{ltb, leb, eqb}
 use Rattle.rules.specs.declared.Value.{Value}
 use Rattle.rules.specs.declared.Value.the-variants.{Zero, One, Blank}
+use Rattle.rules.specs.declared.Status.{Status}
 use Rattle.rules.specs.declared.Status.the-variants.{Undecided}
 use Rattle.rules.specs.declared.Decision.{Decision}
 use Rattle.rules.specs.declared.Decision.the-variants.{Zero as ForZero, One as ForOne, Unwritten}
@@ -15,6 +16,26 @@ use Rattle.rules.specs.declared.Written.{Written}
 use Rattle.rules.specs.Number.{Line, _when_, firstThatApplies}
 use Rattle.rules.specs.Ballot.{valueCode, valueOf, statusCode, sameValue, bytesOf, obeys, notHeads}
 use Rattle.rules.specs.Heard.{member, apart, within, heard}
+
+-- "A head has: the number of heads n, its own number, phase .., value .., status .., decision .., and three sets of head
+-- numbers": those that it holds under each value
+abbrev pub headWith : ℕ → ℕ → ℕ → Value → Status → Decision → (Value → ℕ) → Head
+headWith n own phase value status decision held =
+    record {
+      n = n;
+      own = own;
+      phase = phase;
+      value = value;
+      status = status;
+      decision = decision;
+      zeros = held Zero;
+      ones = held One;
+      blanks = held Blank;
+    }
+
+-- "nothing heard"
+abbrev pub nobody : Value → ℕ
+nobody v = 0
 
 -- "decision (2 for none)"
 abbrev pub decisionCode : Decision → ℕ
@@ -86,13 +107,11 @@ startNumber n own proposal = firstThatApplies (startLines n own proposal)
 
 -- "It starts at phase 1, value = proposal, undecided, no decision, nothing heard."
 abbrev pub fresh : ℕ → ℕ → ℕ → Head
-fresh n own proposal =
-    record { n = n; own = own; phase = 1; value = valueOf proposal; status = Undecided; decision = Unwritten; zeros = 0; ones = 0; blanks = 0 }
+fresh n own proposal = headWith n own 1 (valueOf proposal) Undecided Unwritten nobody
 
 -- "a head with every field zero (value and decision 0, undecided)"
 abbrev pub zeroHead : Head
-zeroHead =
-    record { n = 0; own = 0; phase = 0; value = Zero; status = Undecided; decision = ForZero; zeros = 0; ones = 0; blanks = 0 }
+zeroHead = headWith 0 0 0 Zero Undecided ForZero nobody
 
 -- "A refused start gives a head with every field zero"
 unfoldable pub startOf : ℕ → ℕ → ℕ → Started

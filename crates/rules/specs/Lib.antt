@@ -3,6 +3,7 @@ pub mod Below
 pub mod Ballot
 pub mod Heard
 pub mod Head
+pub mod Choice
 pub mod Tick
 pub mod Record
 pub mod Given
@@ -10,3 +11,4 @@ pub mod Algorithm
 pub mod History
 pub mod Run
 pub mod Round
+pub mod Sixteen

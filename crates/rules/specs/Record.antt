@@ -9,17 +9,20 @@ use Rattle.rules.specs.declared.Decision.the-variants.{Zero as ForZero, 
 use Rattle.rules.specs.declared.Head.{Head}
 use Rattle.rules.specs.Number.{_when_, firstThatApplies}
 use Rattle.rules.specs.Ballot.{valueCode, valueOf, statusCode, statusOf, bytesOf, notHeads}
-use Rattle.rules.specs.Head.{decisionCode, sound, startLines, startOf, ballotOf}
+use Rattle.rules.specs.Head.{headWith, decisionCode, sound, startLines, startOf, ballotOf}
 use Rattle.rules.specs.Tick.{tickNumber, tickOf}
 
+-- "4 bytes each, high byte first"
+abbrev pub fourBytes : ℕ → List ℕ
+fourBytes x = x / 16777216 ∷ x / 65536 % 256 ∷ x / 256 % 256 ∷ x % 256 ∷ []
+
 -- "n, own number, phase (2, high byte first), value, status, decision (2 for none), a zero byte, then the sets for 0, 1
--- and blank, 4 bytes each, high byte first"
+-- and blank"
 abbrev pub recordOf : Head → List ℕ
 recordOf h =
-    h .n ∷ h .own ∷ h .phase / 256 ∷ h .phase % 256 ∷ valueCode (h .value) ∷ statusCode (h .status) ∷ decisionCode (h .decision) ∷ 0
-    ∷ h .zeros / 16777216 ∷ h .zeros / 65536 % 256 ∷ h .zeros / 256 % 256 ∷ h .zeros % 256
-    ∷ h .ones / 16777216 ∷ h .ones / 65536 % 256 ∷ h .ones / 256 % 256 ∷ h .ones % 256
-    ∷ h .blanks / 16777216 ∷ h .blanks / 65536 % 256 ∷ h .blanks / 256 % 256 ∷ h .blanks % 256 ∷ []
+    (h .n ∷ h .own ∷ h .phase / 256 ∷ h .phase % 256 ∷ [])
+    ++ (valueCode (h .value) ∷ statusCode (h .status) ∷ decisionCode (h .decision) ∷ 0 ∷ [])
+    ++ fourBytes (h .zeros) ++ fourBytes (h .ones) ++ fourBytes (h .blanks)
 
 -- "Another length or a byte outside these codes makes it unsound."
 unfoldable pub isRecord : List ℕ → Bool
@@ -36,17 +39,8 @@ fourBytesAt r i = ((getD r i 0 * 256 + getD r (i + 1) 0) * 256 + getD r (i + 2) 
 -- the head that a record holds
 unfoldable pub headAt : List ℕ → Head
 headAt r =
-    record {
-      n = getD r 0 0;
-      own = getD r 1 0;
-      phase = getD r 2 0 * 256 + getD r 3 0;
-      value = valueOf (getD r 4 0);
-      status = statusOf (getD r 5 0);
-      decision = decisionOf (getD r 6 0);
-      zeros = fourBytesAt r 8;
-      ones = fourBytesAt r 12;
-      blanks = fourBytesAt r 16;
-    }
+    headWith (getD r 0 0) (getD r 1 0) (getD r 2 0 * 256 + getD r 3 0) (valueOf (getD r 4 0)) (statusOf (getD r 5 0))
+    (decisionOf (getD r 6 0)) (λ v. fourBytesAt r (8 + valueCode v * 4))
 
 -- 3: "head not sound"
 unfoldable pub notSound : List ℕ → Bool
@@ -60,9 +54,9 @@ startNumberFromC r n own proposal =
 unfoldable pub recordAfterStart : List ℕ → ℕ → ℕ → ℕ → List ℕ
 recordAfterStart r n own proposal = cond (eqb (startNumberFromC r n own proposal) 0) (recordOf (startOf n own proposal .head)) r
 
--- A tick from C; refused, "no byte of a lent record .. changes".
+-- A tick from C: 3, and then what a tick asks of the head; refused, "no byte of a lent record .. changes".
 unfoldable pub tickNumberFromC : List ℕ → List ℕ → ℕ → ℕ
-tickNumberFromC r l coin = cond (isRecord r) (tickNumber (headAt r) l coin) 3
+tickNumberFromC r l coin = cond (notSound r) 3 (tickNumber (headAt r) l coin)
 
 unfoldable pub recordAfterTick : List ℕ → List ℕ → ℕ → List ℕ
 recordAfterTick r l coin = cond (eqb (tickNumberFromC r l coin) 0) (recordOf (tickOf (headAt r) l coin .head)) r

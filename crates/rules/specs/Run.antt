@@ -6,13 +6,15 @@ use mathlib.Core.Path.{_≡_}
 use mathlib.Core.List.{List, [], _∷_, _++_}
 use mathlib.Core.Bool.{cond}
 use mathlib.Core.Logic.{_⊎_}
-use lib.ListN.{length, take, drop}
+use lib.ListN.{length}
 use lib.Dec.{eqb}
 use Rattle.rules.specs.declared.Ballot.{Ballot}
 use Rattle.rules.specs.declared.Head.{Head}
-use Rattle.rules.specs.Ballot.{valueOf, bytesOf}
+use Rattle.rules.specs.Ballot.{valueOf, bytesOf, fiveAt}
 use Rattle.rules.specs.Head.{decisionFor, startOf, ballotOf}
 use Rattle.rules.specs.Tick.{ballots, gathered, tickNumber, tickOf}
+use Rattle.rules.specs.Record.{recordAfterStart, recordAfterTick}
+use Rattle.rules.specs.History.{Handed}
 use Rattle.rules.specs.Given.{Heads, WrittenDecision, Quorum}
 
 -- n heads, and what each proposes
@@ -37,14 +39,22 @@ headIn vote [] s = startOf (vote .n) s (vote .proposal s) .head
 headIn vote (e ∷ events) s =
     cond (eqb (e .head) s) (tickOf (headIn vote events s) (e .bytes) (e .coin) .head) (headIn vote events s)
 
+-- the ticks of head s among the events
+abbrev pub ticksOf : ℕ → List Event → List Handed
+ticksOf s [] = []
+ticksOf s (e ∷ events) =
+    cond (eqb (e .head) s) (record { bytes = e .bytes; coin = e .coin } ∷ ticksOf s events) (ticksOf s events)
+
+-- the record that holds head s after the events, in bytes that were lent for it
+abbrev pub recordIn : Vote → (ℕ → List ℕ) → List Event → ℕ → List ℕ
+recordIn vote lent [] s = recordAfterStart (lent s) (vote .n) s (vote .proposal s)
+recordIn vote lent (e ∷ events) s =
+    let r = recordIn vote lent events s in cond (eqb (e .head) s) (recordAfterTick r (e .bytes) (e .coin)) r
+
 -- b was sent in the vote up to here: it is the ballot of a state that some head has or had, its start included
 abbrev pub Sent : Vote → List Event → Ballot → Type 0
 Sent vote [] b = (s : ℕ) × (s < vote .n) × (b ≡ ballotOf (headIn vote [] s))
 Sent vote (e ∷ events) b = ((s : ℕ) × (s < vote .n) × (b ≡ ballotOf (headIn vote (e ∷ events) s))) ⊎ Sent vote events b
-
--- the five bytes at index i of a list
-abbrev pub fiveAt : List ℕ → ℕ → List ℕ
-fiveAt l i = take 5 (drop (i * 5) l)
 
 -- what demand 3 allows next
 pub record Allowed (vote : Vote) (events : List Event) (e : Event) : Type 0 where

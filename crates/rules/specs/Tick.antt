@@ -8,6 +8,7 @@ use Rattle.rules.specs.declared.Value.{Value}
 use Rattle.rules.specs.declared.Value.the-variants.{Zero, One, Blank}
 use Rattle.rules.specs.declared.Status.{Status}
 use Rattle.rules.specs.declared.Status.the-variants.{Decided}
+use Rattle.rules.specs.declared.Decision.{Decision}
 use Rattle.rules.specs.declared.Ballot.{Ballot}
 use Rattle.rules.specs.declared.Head.{Head}
 use Rattle.rules.specs.declared.Ticked.{Ticked}
@@ -15,7 +16,8 @@ use Rattle.rules.specs.Number.{_when_, firstThatApplies}
 use Rattle.rules.specs.Below.{first, some}
 use Rattle.rules.specs.Ballot.{valueOf, sameValue, sameStatus, ballotAt, breaksRule}
 use Rattle.rules.specs.Heard.{member, setOf, size, overHalf, heard, says}
-use Rattle.rules.specs.Head.{decisionFor, isDecided, isWritten, decisionIsValue, anyHeard, standsUnder, sound, ballotOf}
+use Rattle.rules.specs.Choice.{ahead, bitWith}
+use Rattle.rules.specs.Head.{headWith, nobody, decisionFor, isDecided, isWritten, decisionIsValue, anyHeard, standsUnder, sound, ballotOf}
 
 -- how many ballots a list of bytes holds
 abbrev pub ballots : List ℕ → ℕ
@@ -23,18 +25,13 @@ ballots l = length l / 5
 
 -- ---- Steps 1 and 2
 
--- a is of a higher phase than b, or of the same and a lower sender
-unfoldable pub ahead : Ballot → Ballot → Bool
-ahead a b = ltb (b .phase) (a .phase) || (eqb (a .phase) (b .phase) && ltb (a .sender) (b .sender))
-
 -- the index of "a ballot of the highest phase; among several senders the lowest number gives it": none is ahead of it
 unfoldable pub leader : List ℕ → ℕ
 leader l = first (ballots l) (λ i. not (some (ballots l) (λ j. ahead (ballotAt l j) (ballotAt l i))))
 
 -- "take phase, value and status from a ballot ..; Heard sets now hold that phase's ballots only"
 abbrev pub copying : Head → Ballot → Head
-copying h b =
-    record { n = h .n; own = h .own; phase = b .phase; value = b .value; status = b .status; decision = h .decision; zeros = 0; ones = 0; blanks = 0 }
+copying h b = headWith (h .n) (h .own) (b .phase) (b .value) (b .status) (h .decision) nobody
 
 -- "If some ballot has a higher phase"
 unfoldable pub moved : Head → List ℕ → Head
@@ -46,18 +43,7 @@ heardWith h l v = setOf 32 (λ s. member s (heard h v) || some (ballots l) (λ i
 
 -- Step 1: "Add the ballots to what was heard."
 unfoldable pub added : Head → List ℕ → Head
-added h l =
-    record {
-      n = h .n;
-      own = h .own;
-      phase = h .phase;
-      value = h .value;
-      status = h .status;
-      decision = h .decision;
-      zeros = heardWith h l Zero;
-      ones = heardWith h l One;
-      blanks = heardWith h l Blank;
-    }
+added h l = headWith (h .n) (h .own) (h .phase) (h .value) (h .status) (h .decision) (heardWith h l)
 
 -- The head after steps 1 and 2. Only ballots of the phase that step 2 ends at are held, so they are added at that phase.
 unfoldable pub gathered : Head → List ℕ → Head
@@ -73,10 +59,6 @@ quorum h = overHalf (h .n) (size (h .zeros) + size (h .ones) + size (h .blanks))
 unfoldable pub majority : Head → Value → Bool
 majority h v = overHalf (h .n) (size (heard h v))
 
--- the value 0 or 1 of which p holds, else other; both never are: two majorities meet, and refusal 9 is before the step
-unfoldable pub bitWith : (Value → Bool) → Value → Value
-bitWith p other = cond (p Zero) (cond (p One) other Zero) (cond (p One) One other)
-
 -- "odd phase: if a value was heard from more than n/2 heads, take it, else blank;
 -- even phase: .. take the value 0 or 1 that was heard at all, else the coin"
 unfoldable pub stepValue : Head → ℕ → Value
@@ -88,27 +70,18 @@ stepStatus h = cond (eqb (h .phase % 2) 0 && (majority h Zero || majority h One)
 
 -- "Then phase rises by one and the sets become empty."
 abbrev pub risen : Head → ℕ → Head
-risen h coin =
-    record { n = h .n; own = h .own; phase = h .phase + 1; value = stepValue h coin; status = stepStatus h; decision = h .decision; zeros = 0; ones = 0; blanks = 0 }
+risen h coin = headWith (h .n) (h .own) (h .phase + 1) (stepValue h coin) (stepStatus h) (h .decision) nobody
 
 -- "If the number of heads heard .. exceeds n, step"
 unfoldable pub stepped : Head → ℕ → Head
 stepped h coin = cond (quorum h) (risen h coin) h
 
 -- ---- Step 4: "If decided, the decision is the value."
+abbrev pub decisionAfter : Head → Decision
+decisionAfter h = cond (isDecided h) (decisionFor (h .value)) (h .decision)
+
 unfoldable pub settled : Head → Head
-settled h =
-    record {
-      n = h .n;
-      own = h .own;
-      phase = h .phase;
-      value = h .value;
-      status = h .status;
-      decision = cond (isDecided h) (decisionFor (h .value)) (h .decision);
-      zeros = h .zeros;
-      ones = h .ones;
-      blanks = h .blanks;
-    }
+settled h = headWith (h .n) (h .own) (h .phase) (h .value) (h .status) (decisionAfter h) (heard h)
 
 -- ---- The refusals
 

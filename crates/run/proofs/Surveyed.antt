@@ -13,12 +13,11 @@ use Rattle.rules.specs.declared.Status.{Status}
 use Rattle.rules.specs.declared.Status.the-variants.{Undecided, Decided}
 use Rattle.rules.specs.declared.Head.{Head}
 use Rattle.rules.specs.Below.{count}
-use Rattle.rules.specs.Ballot.{statusCode, bytesOf}
+use Rattle.rules.specs.Ballot.{statusCode, bytesOf, fiveAt}
 use Rattle.rules.specs.Heard.{member}
 use Rattle.rules.specs.Head.{zeroHead, isDecided, ballotOf}
 use Rattle.rules.specs.Tick.{tickOf}
 use Rattle.rules.specs.Record.{fourBytesAt}
-use Rattle.rules.specs.Run.{fiveAt}
 use Rattle.rules.proofs.Below.{count-le}
 use Rattle.rules.proofs.Sets.{member-none}
 use Rattle.file.specs.Table.{headOf, placed, receivedIn, tickedIn, roundIn}

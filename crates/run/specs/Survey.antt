@@ -6,11 +6,10 @@ use mathlib.Core.Bool.{Bool, cond}
 use lib.ListN.{getD, set, replicate}
 use lib.Seq.{sets}
 use Rattle.rules.specs.declared.Head.{Head}
-use Rattle.rules.specs.Ballot.{statusCode, bytesOf}
+use Rattle.rules.specs.Ballot.{statusCode, bytesOf, fiveAt}
 use Rattle.rules.specs.Heard.{member}
 use Rattle.rules.specs.Head.{ballotOf}
 use Rattle.rules.specs.Tick.{tickOf}
-use Rattle.rules.specs.Run.{fiveAt}
 use Rattle.rules.specs.Record.{fourBytesAt}
 use Rattle.file.specs.Table.{headOf}
 use Rattle.run.specs.declared.heads.Survey.{Survey}

@@ -14,6 +14,7 @@ use Rattle.rules.specs.Head.{sound, startOf, sendOf}
 use Rattle.rules.specs.Tick.{tickOf}
 use Rattle.rules.specs.Record.{recordOf, isRecord, headAt, notSound, startNumberFromC, recordAfterStart, tickNumberFromC, recordAfterTick, sendNumberFromC, bufferAfterSend}
 use Rattle.rules.proofs.Answers.{start-number, starts-number, tick-number, send-sound, send-unsound, send-bytes}
+use Rattle.rules.proofs.FromC.{tick-number-from-c}
 
 -- ---- a start
 
@@ -46,24 +47,26 @@ abbrev Ticks : List ℕ → List ℕ → ℕ → ℕ → List ℕ → Type 0
 Ticks r l coin number after = (number ≡ tickNumberFromC r l coin) × (after ≡ recordAfterTick r l coin)
 
 pub tick-no-record : (r l : List ℕ) (coin : ℕ) → isRecord r ≡ false → Ticks r l coin 3 r
-unfolding tickNumberFromC recordAfterTick
-tick-no-record r l coin uncoded = (simp uncoded, simp uncoded)
+unfolding recordAfterTick
+tick-no-record r l coin uncoded = (simp (tick-number-from-c r l coin, uncoded), simp (tick-number-from-c r l coin, uncoded))
 
 module _ (r l : List ℕ) (coin : ℕ) (h : Head) (t : Ticked) (coded : isRecord r ≡ true) (held : h ≡ headAt r) (is : t ≡ tickOf h l coin) where
   from-record : t ≡ tickOf (headAt r) l coin
   from-record = is ∙ ap (λ (g : Head). tickOf g l coin) held
 
   pub tick-refused : (t .number ≡ 0 → ⊥) → Ticks r l coin (t .number) r
-  unfolding tickNumberFromC recordAfterTick
+  unfolding recordAfterTick
   tick-refused some =
       let number = ap (λ (x : Ticked). x .number) from-record ∙ tick-number (headAt r) l coin in
-      (simp (coded, ← number), simp (coded, ← number, ne-eqb (t .number) 0 some))
+      let given = tick-number-from-c r l coin in
+      (simp (given, coded, ← number), simp (given, coded, ← number, ne-eqb (t .number) 0 some))
 
   pub tick-stores : t .number ≡ 0 → Ticks r l coin 0 (recordOf (t .head))
-  unfolding tickNumberFromC recordAfterTick
+  unfolding recordAfterTick
   tick-stores zero =
       let number = sym (ap (λ (x : Ticked). x .number) from-record ∙ tick-number (headAt r) l coin) ∙ zero in
-      (simp (coded, number), simp (coded, number) (ap (λ (x : Ticked). recordOf (x .head)) from-record))
+      let given = tick-number-from-c r l coin in
+      (simp (given, coded, number), simp (given, coded, number) (ap (λ (x : Ticked). recordOf (x .head)) from-record))
 
 -- ---- a ballot
 

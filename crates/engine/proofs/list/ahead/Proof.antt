@@ -1,5 +1,5 @@
 use mathlib.Core.Path.{refl}
-use Rattle.rules.specs.Tick.{ahead}
+use Rattle.rules.specs.Choice.{ahead}
 use Rattle.engine.proofs.list.ahead.Statement.{statement}
 use Rattle.engine.proofs.list.ahead.Tie as tie
 

@@ -1,4 +1,4 @@
-use Rattle.rules.specs.Tick.{ahead}
+use Rattle.rules.specs.Choice.{ahead}
 use borrow.Author.Needs.{needs}
 use Rattle.engine.proofs.list.leading.Statement.{statement}
 use Rattle.engine.proofs.list.leading.Tie as tie

@@ -1,4 +1,5 @@
-use Rattle.rules.specs.Tick.{stepValue, bitWith}
+use Rattle.rules.specs.Tick.{stepValue}
+use Rattle.rules.specs.Choice.{bitWith}
 use borrow.Author.Tests.{eq-eqb, ne-eqb}
 use borrow.Author.Needs.{needs}
 use Rattle.engine.proofs.step.step_value.Statement.{statement}

@@ -8,7 +8,7 @@ use lib.ListN.{length, take, drop, length-drop}
 use lib.Seq.{sets, length-sets, length-take-le}
 use borrow.Author.Needs.{needs}
 use Rattle.rules.specs.Heard.{member}
-use Rattle.rules.specs.Run.{fiveAt}
+use Rattle.rules.specs.Ballot.{fiveAt}
 use Rattle.run.specs.Survey.{keptBytes, receivedFrom}
 use Rattle.run.proofs.Parts.{kept-or-lost}
 use Rattle.run.proofs.Surveyed.{all-received}

@@ -1,0 +1,99 @@
+-- Document 01, 'Sixteen ticks proved of the rules': "One list of these sixteen and a single statement over it."
+use Prim.Native.Nat.{ℕ}
+use mathlib.Core.List.{List, [], _∷_}
+use Rattle.rules.specs.declared.Value.{Value}
+use Rattle.rules.specs.declared.Value.the-variants.{Zero, One, Blank}
+use Rattle.rules.specs.declared.Status.{Status}
+use Rattle.rules.specs.declared.Status.the-variants.{Undecided as u, Decided as d}
+use Rattle.rules.specs.declared.Decision.{Decision}
+use Rattle.rules.specs.declared.Decision.the-variants.{One as ForOne, Unwritten as none}
+use Rattle.rules.specs.declared.Ballot.{Ballot}
+use Rattle.rules.specs.declared.Head.{Head}
+use Rattle.rules.specs.declared.Ticked.{Ticked}
+use Rattle.rules.specs.Ballot.{encode}
+use Rattle.rules.specs.Head.{headWith, nobody, startOf}
+use Rattle.rules.specs.Tick.{tickOf}
+
+-- "Ballots as (sender, phase, value, u or d)"
+abbrev pub ballot : ℕ → ℕ → Value → Status → Ballot
+ballot sender phase value status = record { sender = sender; value = value; status = status; phase = phase }
+
+-- "own number 0, proposal 1"
+abbrev pub start : ℕ → Head
+start n = startOf n 0 1 .head
+
+abbrev pub head : ℕ → ℕ → Value → Status → Decision → Head
+head n phase value status decision = headWith n 0 phase value status decision nobody
+
+-- ".. held under 1"
+abbrev pub underOne : ℕ → Value → ℕ
+underOne set Zero = 0
+underOne set One = set
+underOne set Blank = 0
+
+abbrev pub holding : ℕ → ℕ → Value → Status → Decision → ℕ → Head
+holding n phase value status decision set = headWith n 0 phase value status decision (underOne set)
+
+-- what a tick gives, and what the table says
+pub record Said : Type 0 where
+  pub gives : Ticked
+  pub after : Ticked
+
+abbrev pub ticks : Head → List Ballot → ℕ → Head → Said
+ticks before list coin after =
+    record { gives = tickOf before (encode list) coin; after = record { number = 0; head = after } }
+
+-- "coin 0 unless said"
+abbrev pub refuses : Head → List Ballot → ℕ → Said
+refuses before list number =
+    record { gives = tickOf before (encode list) 0; after = record { number = number; head = before } }
+
+-- what cases 1, 2, 4 and 7 leave
+abbrev pub case1 : Head
+case1 = head 3 1 One u none
+
+abbrev pub case2 : Head
+case2 = head 3 2 One u none
+
+abbrev pub case4 : Head
+case4 = head 4 2 Blank u none
+
+abbrev pub case7 : Head
+case7 = head 3 3 One d ForOne
+
+unfoldable pub sixteen : List Said
+sixteen =
+    -- 1
+    record { gives = record { number = startOf 3 0 1 .number; head = start 3 }; after = record { number = 0; head = case1 } }
+    -- 2
+    ∷ ticks case1 (ballot 0 1 One u ∷ ballot 1 1 One u ∷ []) 0 case2
+    -- 3: "0 and 1 held under 1"
+    ∷ ticks (start 4) (ballot 0 1 One u ∷ ballot 1 1 One u ∷ []) 0 (holding 4 1 One u none 3)
+    -- 4
+    ∷ ticks (start 4) (ballot 0 1 One u ∷ ballot 1 1 One u ∷ ballot 2 1 Zero u ∷ []) 0 case4
+    -- 5
+    ∷ ticks case4 (ballot 0 2 Blank u ∷ ballot 1 2 Blank u ∷ ballot 2 2 Blank u ∷ []) 1 (head 4 3 One u none)
+    -- 6
+    ∷ ticks case4 (ballot 0 2 Blank u ∷ ballot 1 2 One u ∷ ballot 2 2 Blank u ∷ []) 0 (head 4 3 One u none)
+    -- 7
+    ∷ ticks case2 (ballot 0 2 One u ∷ ballot 1 2 One u ∷ []) 0 case7
+    -- 8
+    ∷ ticks case7 (ballot 1 4 One u ∷ []) 0 (holding 3 4 One u ForOne 2)
+    -- 9
+    ∷ refuses case7 (ballot 2 5 Zero d ∷ []) 11
+    -- 10
+    ∷ ticks (start 3) (ballot 1 2 One u ∷ ballot 2 2 Blank u ∷ []) 0 (head 3 3 One u none)
+    -- 11
+    ∷ ticks (start 3) [] 0 (start 3)
+    -- 12
+    ∷ refuses (start 3) (ballot 1 1 Blank u ∷ []) 6
+    -- 13
+    ∷ refuses (start 3) (ballot 1 1 Zero u ∷ ballot 1 1 One u ∷ []) 8
+    -- 14
+    ∷ refuses case2 (ballot 1 2 Zero u ∷ ballot 2 2 One u ∷ []) 9
+    -- 15, and "with the first alone"
+    ∷ refuses (start 3) (ballot 1 65535 One u ∷ ballot 2 65535 One u ∷ []) 10
+    ∷ ticks (start 3) (ballot 1 65535 One u ∷ []) 0 (holding 3 65535 One u none 2)
+    -- 16
+    ∷ refuses (start 3) (ballot 1 5 Zero d ∷ ballot 2 5 One u ∷ []) 11
+    ∷ []
