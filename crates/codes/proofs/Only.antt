@@ -1,7 +1,7 @@
 -- No second answer fits: two answers that both meet a public function's promise are equal. Stated over the promises
 -- themselves, as the functions carry them.
 use mathlib.Core.Path.{_≡_}
-use Rattle.rules.proofs.Answers.{only}
+use Rattle.rules.proofs.Meaning.Answers.{only}
 use Rattle.codes.proofs.decision_code.Reads as decision-code
 use Rattle.codes.proofs.decision_of.Reads as decision-of
 use Rattle.codes.proofs.phase_of.Reads as phase-of

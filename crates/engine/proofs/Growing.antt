@@ -11,9 +11,9 @@ use borrow.Author.Tests.{ne-eqb}
 use Rattle.rules.specs.declared.Head.{Head}
 use Rattle.rules.specs.Below.{some}
 use Rattle.rules.specs.Heard.{member, setOf}
-use Rattle.rules.proofs.Truth.{and-always, and-never, or-never}
-use Rattle.rules.proofs.Sets.{member-none, member-one, member-or, set-same, setOf-is}
-use Rattle.rules.proofs.Hearing.{none-heard, one-more-heard}
+use Rattle.rules.proofs.Counting.Truth.{and-always, and-never, or-never}
+use Rattle.rules.proofs.Counting.Sets.{member-none, member-one, member-or, set-same, setOf-is}
+use Rattle.rules.proofs.OneTick.Hearing.{none-heard, one-more-heard}
 use Rattle.engine.specs.declared.look.Look.{Look}
 use Rattle.engine.specs.Look.{alone, begun, withBallot, lookAt}
 
@@ -61,4 +61,4 @@ grown x p set h e step (suc i) =
     step i (below before) ∙ one-more-heard x (set i) i p before ∙ ap (λ (k : ℕ). setOf 32 (λ s. member s x || some k (p s))) next
   where
     below : set i ≡ setOf 32 (λ s. member s x || some i (p s)) → set i < 2 ^ 32
-    below q = omega (arith, Rattle.rules.proofs.Sets.setOf-lt 32 (λ s. member s x || some i (p s)))
+    below q = omega (arith, Rattle.rules.proofs.Counting.Sets.setOf-lt 32 (λ s. member s x || some i (p s)))

@@ -1,8 +1,8 @@
 -- No second answer fits: two answers that both meet a public function's promise are equal. Stated over the promises
 -- themselves, as the functions carry them. What is lent here is lent by `&`, through which nothing can be written.
 use mathlib.Core.Path.{_≡_}
-use Rattle.rules.proofs.Answers.{only}
-use Rattle.rules.proofs.Ballots.{one-answer}
+use Rattle.rules.proofs.Meaning.Answers.{only}
+use Rattle.rules.proofs.Layouts.Ballots.{one-answer}
 use Rattle.engine.proofs.ballot.read.Reads as read
 use Rattle.engine.proofs.head.send.Reads as send
 use Rattle.engine.proofs.head.sound.Reads as sound

@@ -23,11 +23,11 @@ use Rattle.rules.specs.Heard.{member, setOf, apart, heard, says}
 use Rattle.rules.specs.Head.{standsUnder}
 use Rattle.rules.specs.Tick.{ballots, moved, heardWith, added, gathered, copying, leader, ownOtherwise, contradicts}
 use Rattle.rules.specs.Given.{Sound, Hears, Other, OwnOtherwise, Differ, HeldOtherwise}
-use Rattle.rules.proofs.Truth.{never, not-false as means-false, means-self, means-and, means-or, means-not, means-eq, means-lt, and-left, and-right, or-left-false, or-right-false, or-never}
-use Rattle.rules.proofs.Below.{some-here, some-not, some-more}
-use Rattle.rules.proofs.Sets.{member-setOf, means-within, means-apart}
-use Rattle.rules.proofs.Meanings.{means-value, means-status, means-stands}
-use Rattle.rules.proofs.Given.{means-own, means-contradicts}
+use Rattle.rules.proofs.Counting.Truth.{never, not-false as means-false, means-self, means-and, means-or, means-not, means-eq, means-lt, and-left, and-right, or-left-false, or-right-false, or-never}
+use Rattle.rules.proofs.Counting.Below.{some-here, some-not, some-more}
+use Rattle.rules.proofs.Counting.Sets.{member-setOf, means-within, means-apart}
+use Rattle.rules.proofs.Meaning.Meanings.{means-value, means-status, means-stands}
+use Rattle.rules.proofs.Meaning.Given.{means-own, means-contradicts}
 use Rattle.engine.specs.declared.look.Look.{Look}
 use Rattle.engine.specs.Look.{alone, withPresent, withElsewhere, withBallot, lookAt, shown, otherStatus, isPlain, listNumber}
 use Rattle.engine.proofs.Growing.{one-more, grown}

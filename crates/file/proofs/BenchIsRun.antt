@@ -16,8 +16,8 @@ use Rattle.rules.specs.Tick.{tickNumber, tickOf}
 use Rattle.rules.specs.Record.{fourBytesAt}
 use Rattle.rules.specs.Run.{headIn, Run}
 use Rattle.rules.specs.Round.{received, ticksOfRound}
-use Rattle.rules.proofs.Rounds.{round-is-run, untouched, ticked-once}
-use Rattle.rules.proofs.Phases.{no-early-refusal}
+use Rattle.rules.proofs.Rounds.Rounds.{round-is-run, untouched, ticked-once}
+use Rattle.rules.proofs.Undivided.Phases.{no-early-refusal}
 use Rattle.file.specs.declared.Plan.{Plan}
 use Rattle.file.specs.Rules.{KeepsEveryRule}
 use Rattle.file.specs.Table.{headOf, startIn, startsIn, rowsIn, coinsIn, receivedIn, tickedIn, roundIn, roundsIn}

@@ -1,5 +1,5 @@
 -- What the computed examples share: the run file, the bench and the report opened.
-use Rattle.rules.proofs.Computing.{computing}
+use Rattle.rules.proofs.Computed.Computing.{computing}
 use Rattle.file.specs.Section.{counted, unlessBroken, checked, proposalsOf, neededOf, lossesOf, coinsOf}
 use Rattle.file.specs.Plan.{closed, afterLosses, afterNeeded, afterProposals, planOf}
 use Rattle.file.specs.Table.{placed, roundIn, roundsIn, tableAfter}

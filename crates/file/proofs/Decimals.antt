@@ -10,7 +10,7 @@ use lib.Dec.{ltb, lit<}
 use borrow.Author.Tests.{lt-ltb, le-ltb}
 use Rattle.io.specs.Digits.{digits, Fewest}
 use Rattle.rules.specs.Below.{first}
-use Rattle.rules.proofs.Below.{NoneBefore, first-le, search-finds, search-ends}
+use Rattle.rules.proofs.Counting.Below.{NoneBefore, first-le, search-finds, search-ends}
 use Rattle.file.specs.Report.{places, decimal}
 
 -- twenty digits hold every number below 10 ^ 20

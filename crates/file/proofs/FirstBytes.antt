@@ -13,7 +13,7 @@ use borrow.Author.Tests.{lt-ltb, le-ltb, ltb-false}
 use Rattle.rules.specs.declared.Head.{Head}
 use Rattle.rules.specs.Below.{count}
 use Rattle.rules.specs.Ballot.{notHeads}
-use Rattle.rules.proofs.Meanings.{heads}
+use Rattle.rules.proofs.Meaning.Meanings.{heads}
 use Rattle.file.specs.declared.Section.{Section}
 use Rattle.file.specs.declared.Section.the-variants.{Body, Refused}
 use Rattle.file.specs.declared.Plan.{Plan}

@@ -12,7 +12,7 @@ use borrow.Author.Tests.{ltb-false}
 use Rattle.rules.specs.Heard.{member}
 use Rattle.rules.specs.Record.{fourBytesAt}
 use Rattle.rules.specs.Given.{Heads}
-use Rattle.rules.proofs.Truth.{never}
+use Rattle.rules.proofs.Counting.Truth.{never}
 use Rattle.file.specs.declared.Section.{Section}
 use Rattle.file.specs.declared.Section.the-variants.{Refused}
 use Rattle.file.specs.declared.Plan.{Plan}

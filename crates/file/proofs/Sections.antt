@@ -13,9 +13,9 @@ use Rattle.rules.specs.Ballot.{notHeads}
 use Rattle.rules.specs.Heard.{within}
 use Rattle.rules.specs.Record.{fourBytesAt}
 use Rattle.rules.specs.Given.{Heads}
-use Rattle.rules.proofs.Truth.{Means, never, not-false, means-as, means-and, means-not, means-twice, means-lt, means-le, means-eq}
-use Rattle.rules.proofs.Below.{not-some, first-holds, first-before, first-at}
-use Rattle.rules.proofs.Sets.{means-within}
+use Rattle.rules.proofs.Counting.Truth.{Means, never, not-false, means-as, means-and, means-not, means-twice, means-lt, means-le, means-eq}
+use Rattle.rules.proofs.Counting.Below.{not-some, first-holds, first-before, first-at}
+use Rattle.rules.proofs.Counting.Sets.{means-within}
 use Rattle.file.specs.declared.Section.{Section}
 use Rattle.file.specs.declared.Section.the-variants.{Body, Refused}
 use Rattle.file.specs.Section.{countAt, bodyOf, counted, firstBroken, unlessBroken, checked, notBit, notNeed, notRow, proposalsOf, neededOf, lossesOf, coinsOf}

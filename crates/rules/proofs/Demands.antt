@@ -1,6 +1,6 @@
--- The demands. Read this page first: each theorem below answers the sentence above it, over the definitions that the engine's
--- promises cite. Specs: Given and Record for demand 1, Algorithm and History for demand 2, Run and Round for demand 3. How
--- each theorem is used stands in DemandsApplied.
+-- The demands. Read this page first: each theorem below answers the sentence above it, over the definitions that the
+-- engine's promises cite. Specs: Given and Record for demand 1, Algorithm and History for demand 2, Run and Round for
+-- demand 3. How each theorem is used stands in DemandsApplied.
 use Prim.Native.Nat.{ℕ, _*_, _<_}
 use mathlib.Core.Path.{_≡_}
 use mathlib.Core.List.{List, [], _∷_, map}
@@ -20,23 +20,23 @@ use Rattle.rules.specs.Algorithm.{Process, line6, line8, lines9to13}
 use Rattle.rules.specs.History.{Handed, headAfter, acceptedOf, ballotsIn, processAfter, Shows, OneBitIsThere}
 use Rattle.rules.specs.Run.{Vote, Proper, Event, headIn, ticksOf, recordIn, Run, NoTwoDecisionsDiffer, EachWasProposed, AWrittenOneStays, NotRefusedBeforeTheLastPhase, EveryHeadDecides}
 use Rattle.rules.specs.Round.{Channel, round, LosesNothing, CoinsAreBits}
-use Rattle.rules.proofs.Given.{start-given, read-given, send-given, tick-given}
-use Rattle.rules.proofs.Senders.{hears-exactly, tick-hears}
-use Rattle.rules.proofs.FromC.{starts-given, ticks-given, sends-given, started-record-holds, ticked-record-holds, ballot-from-c-reads-back}
-use Rattle.rules.proofs.Answers.{refused-tick, refused-tick-from-c, refused-start-from-c, refused-send-from-c}
-use Rattle.rules.proofs.Ballots.{sent-reads-back, one-ballot-one-writing}
-use Rattle.rules.proofs.Encoding.{tick-takes-its-bytes}
-use Rattle.rules.proofs.RecordsOfAVote as R
-use Rattle.rules.proofs.AsAlgorithm.{as-algorithm-1, sends-line-6, one-bit-is-there}
-use Rattle.rules.proofs.HistoryInARun.{as-algorithm-1-in-a-run}
-use Rattle.rules.proofs.Rounds.{round-is-run}
-use Rattle.rules.proofs.TwoRounds.{two-rounds-decide}
-use Rattle.rules.proofs.OneEvent.{event-number}
-use Rattle.rules.proofs.Runs.{kept-run}
-use Rattle.rules.proofs.Decisions.{decision-stays}
-use Rattle.rules.proofs.Proposed.{decisions-agree, decision-proposed}
+use Rattle.rules.proofs.Meaning.Given.{start-given, read-given, send-given, tick-given}
+use Rattle.rules.proofs.OneTick.Senders.{hears-exactly, tick-hears}
+use Rattle.rules.proofs.Layouts.FromC.{starts-given, ticks-given, sends-given, started-record-holds, ticked-record-holds, ballot-from-c-reads-back}
+use Rattle.rules.proofs.Meaning.Answers.{refused-tick, refused-tick-from-c, refused-start-from-c, refused-send-from-c}
+use Rattle.rules.proofs.Layouts.Ballots.{sent-reads-back, one-ballot-one-writing}
+use Rattle.rules.proofs.Layouts.Encoding.{tick-takes-its-bytes}
+use Rattle.rules.proofs.Layouts.RecordsOfAVote as R
+use Rattle.rules.proofs.Paper.AsAlgorithm.{as-algorithm-1, sends-line-6, one-bit-is-there}
+use Rattle.rules.proofs.Paper.HistoryInARun.{as-algorithm-1-in-a-run}
+use Rattle.rules.proofs.Rounds.Rounds.{round-is-run}
+use Rattle.rules.proofs.Rounds.TwoRounds.{two-rounds-decide}
+use Rattle.rules.proofs.Undivided.OneEvent.{event-number}
+use Rattle.rules.proofs.Undivided.Runs.{kept-run}
+use Rattle.rules.proofs.Undivided.Decisions.{decision-stays}
+use Rattle.rules.proofs.Undivided.Proposed.{decisions-agree, decision-proposed}
 use Rattle.rules.specs.Sixteen.{Said, sixteen}
-use Rattle.rules.proofs.Sixteen.{each-tick-gives-what-is-said}
+use Rattle.rules.proofs.Computed.Sixteen.{each-tick-gives-what-is-said}
 
 -- ---- Demand 1
 
@@ -106,8 +106,8 @@ a-refused-ballot-leaves-zeros = refused-send-from-c
 
 -- ---- Demand 2
 
--- "Each accepted tick does what Algorithm 1 .. does with all ballots heard so far": for every sequence of ticks from a start,
--- those that were refused passed over
+-- "Each accepted tick does what Algorithm 1 .. does with all ballots heard so far": for every sequence of ticks from a
+-- start, those that were refused passed over
 pub each-accepted-tick-does-what-algorithm-1-does : (n own proposal : ℕ)
     → startNumber n own proposal ≡ 0
     → (ticks : List Handed)
@@ -118,7 +118,8 @@ each-accepted-tick-does-what-algorithm-1-does = as-algorithm-1
 pub a-head-sends-what-line-6-sends : (h : Head) (i : Process) → Shows h i → ballotOf h ≡ line6 i
 a-head-sends-what-line-6-sends = sends-line-6
 
--- "choices fixed as in document 01": where the paper takes or draws a bit in an accepted tick, 0 and 1 are never both there
+-- "choices fixed as in document 01": where the paper takes or draws a bit in an accepted tick, 0 and 1 are never both
+-- there
 pub both-bits-are-never-there : (n own proposal : ℕ)
     → startNumber n own proposal ≡ 0
     → (ticks : List Handed) (t : Handed)
@@ -127,8 +128,8 @@ pub both-bits-are-never-there : (n own proposal : ℕ)
     OneBitIsThere (lines9to13 (line8 i (ballotsIn (t .bytes))))
 both-bits-are-never-there = one-bit-is-there
 
--- "Start, tick and ballot are called from C on such records", document 01: an entry does on a head's record what the engine
--- does on the head, and gives the same number, accepted or refused
+-- "Start, tick and ballot are called from C on such records", document 01: an entry does on a head's record what the
+-- engine does on the head, and gives the same number, accepted or refused
 pub tick-number-on-a-record : (h : Head) (l : List ℕ) (coin : ℕ)
     → tickNumberFromC (recordOf h) l coin ≡ tickNumber h l coin
 tick-number-on-a-record = R.tick-number-on-a-record
@@ -221,7 +222,8 @@ a-written-one-stays = decision-stays
 pub no-tick-is-refused-before-the-last-phase : (vote : Vote) (events : List Event) (e : Event)
     → Run vote (e ∷ events)
     → NotRefusedBeforeTheLastPhase vote events e
-no-tick-is-refused-before-the-last-phase vote events e run = event-number vote events e (kept-run vote events (run .0)) (run .1)
+no-tick-is-refused-before-the-last-phase vote events e run =
+    event-number vote events e (kept-run vote events (run .0)) (run .1)
 
 -- every head of every run is sound
 pub heads-stay-sound : (vote : Vote) (events : List Event)
@@ -231,8 +233,8 @@ pub heads-stay-sound : (vote : Vote) (events : List Event)
     → Sound (headIn vote events s)
 heads-stay-sound vote events run = kept-run vote events run .sound
 
--- "If over half propose one bit and the first ticks are two of document 01's rounds that lose nothing, every head decides
--- that bit in them."
+-- "If over half propose one bit and the first ticks are two of document 01's rounds that lose nothing, every head
+-- decides that bit in them."
 pub two-lossless-rounds-decide : (vote : Vote)
     → Proper vote
     → (bit : ℕ)

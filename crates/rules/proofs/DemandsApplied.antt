@@ -1,5 +1,6 @@
--- Every theorem of Demands, applied by its name to a case that needs all of it, and every hypothesis met by what its sentence
--- allows. A statement of that page that was hollowed, in what it asks for or in what it says, no longer fits here.
+-- Every theorem of Demands, applied by its name to a case that needs all of it, and every hypothesis met by what its
+-- sentence allows. A statement of that page that was hollowed, in what it asks for or in what it says, no longer fits
+-- here.
 use Prim.Native.Nat.{ℕ, zero, suc, _*_, _/_, _%_, _≤_, _<_}
 use mathlib.Core.Path.{_≡_, refl, sym, ap, _∙_}
 use mathlib.Core.List.{List, [], _∷_, _++_, map}
@@ -26,15 +27,15 @@ use Rattle.rules.specs.Given.{Sound, SoundRecord, Hears, WrittenDecision
 use Rattle.rules.specs.Algorithm.{Process, line6, line8, lines9to13, atPhaseWith}
 use Rattle.rules.specs.History.{Handed, headAfter, ballotsIn, processAfter, Shows}
 use Rattle.rules.specs.Run.{Vote, Proper, Event, headIn, ticksOf, recordIn, Sent, Run, NotRefusedBeforeTheLastPhase, EveryHeadDecides}
-use Rattle.rules.specs.Round.{Channel, round}
+use Rattle.rules.specs.Round.{Channel, round, LosesNothing}
 use Rattle.rules.specs.Sixteen.{ballot, start, head, Said, sixteen}
-use Rattle.rules.proofs.Truth.{never}
-use Rattle.rules.proofs.Computing.{computing}
-use Rattle.rules.proofs.Given.{passed-over, applies, given-applies}
-use Rattle.rules.proofs.AWorkedRun.{twoOfThree}
-use Rattle.rules.proofs.WorkedRunsAreRuns.{two-of-three}
-use Rattle.rules.proofs.Rounds.{run-proper}
-use Rattle.rules.proofs.ALateRun.{three, oneSteps, lateAndRepeated, proper-three, late-and-repeated-is-a-run}
+use Rattle.rules.proofs.Counting.Truth.{never}
+use Rattle.rules.proofs.Computed.Computing.{computing}
+use Rattle.rules.proofs.Meaning.Given.{passed-over, applies, given-applies}
+use Rattle.rules.proofs.Computed.AWorkedRun.{twoOfThree}
+use Rattle.rules.proofs.Computed.WorkedRunsAreRuns.{two-of-three}
+use Rattle.rules.proofs.Rounds.Rounds.{run-proper}
+use Rattle.rules.proofs.Computed.LateRun.{three, oneSteps, lateAndRepeated, proper-three, late-and-repeated-is-a-run}
 use Rattle.rules.proofs.Demands as D
 
 -- ---- Demand 1: from the number to its sentence, and from the sentence to its number
@@ -90,7 +91,8 @@ two-ballots-of-case-13-differ =
 pub the-same-from-c : Eight (headAt (recordOf (start 3))) differing
 unfolding computing
 the-same-from-c =
-    let given = D.a-tick-from-c-is-refused-by-the-first-number-that-applies (recordOf (start 3)) differing 0 8 .0 refl in
+    let r = recordOf (start 3) in
+    let given = D.a-tick-from-c-is-refused-by-the-first-number-that-applies r differing 0 8 .0 refl in
     only-line (given-applies 8 0 (tickTableFromC (recordOf (start 3)) differing 0) (not-zero 7) given) (λ none. none) .0
 
 -- what a refusal leaves
@@ -99,7 +101,8 @@ unfolding computing
 is-eight = refl
 
 pub the-head-as-it-came : tickOf (start 3) differing 0 .head ≡ start 3
-the-head-as-it-came = D.a-refused-tick-returns-the-head-as-it-came (start 3) differing 0 (λ e. omega (arith, e, is-eight))
+the-head-as-it-came =
+    D.a-refused-tick-returns-the-head-as-it-came (start 3) differing 0 (λ e. omega (arith, e, is-eight))
 
 pub the-record-as-it-came : recordAfterTick (recordOf (start 3)) differing 0 ≡ recordOf (start 3)
 the-record-as-it-came =
@@ -114,7 +117,8 @@ pub four-bytes-become-zeros : bufferAfterSend [] (replicate 4 255) ≡ replicate
 unfolding computing
 four-bytes-become-zeros = D.a-refused-ballot-leaves-zeros [] (replicate 4 255) (λ e. not-zero 2 e)
 
--- head 1 sends 1 at phase 1 to one of three: it is heard, after the tick too, since one of three is no quorum; head 2 is not
+-- head 1 sends 1 at phase 1 to one of three: it is heard, after the tick too, since one of three is no quorum; head 2
+-- is not
 abbrev fromOne : List ℕ
 fromOne = encode (ballot 1 1 One u ∷ [])
 
@@ -130,7 +134,11 @@ head-1-is-still-heard =
 
 pub head-2-is-not-heard : Hears (tickOf (start 3) fromOne 0 .head) One 2 → ⊥
 unfolding computing
-head-2-is-not-heard m = elim (D.whom-a-head-hears-after-a-tick (start 3) fromOne 0 refl One 2 .0 m .1) [ inl x ↦ never (x .1) | inr x ↦ none (x .0) (x .1) (x .2 .1) ]
+head-2-is-not-heard m =
+    elim (D.whom-a-head-hears-after-a-tick (start 3) fromOne 0 refl One 2 .0 m .1) [
+      | inl x ↦ never (x .1)
+      | inr x ↦ none (x .0) (x .1) (x .2 .1)
+    ]
   where
     none : (i : ℕ) → i < 1 → ballotAt fromOne i .sender ≡ 2 → ⊥
     none zero h e = omega (arith, e)
@@ -149,10 +157,12 @@ abbrev second : Handed
 second = tick (ballot 0 2 One u ∷ ballot 1 2 One u ∷ [])
 
 -- a tick that is refused between them is passed over
-pub a-refused-tick-is-passed-over : Shows (headAfter 3 0 1 (second ∷ tick (ballot 0 9 One u ∷ []) ∷ first ∷ [])) (processAfter 3 0 1 (second ∷ first ∷ []))
+abbrev withOneRefused : List Handed
+withOneRefused = second ∷ tick (ballot 0 9 One u ∷ []) ∷ first ∷ []
+
+pub a-refused-tick-is-passed-over : Shows (headAfter 3 0 1 withOneRefused) (processAfter 3 0 1 (second ∷ first ∷ []))
 unfolding computing
-a-refused-tick-is-passed-over =
-    D.each-accepted-tick-does-what-algorithm-1-does 3 0 1 refl (second ∷ tick (ballot 0 9 One u ∷ []) ∷ first ∷ [])
+a-refused-tick-is-passed-over = D.each-accepted-tick-does-what-algorithm-1-does 3 0 1 refl withOneRefused
 
 -- what `Shows` says: two heads that show one process are alike, hear the same heads, and send the same ballot
 pub shown-alike : {h k : Head} {i : Process} → Shows h i → Shows k i
@@ -169,7 +179,8 @@ shown-alike a b = (
 )
 
 pub shown-alike-sends-alike : (h k : Head) (i : Process) → Shows h i → Shows k i → ballotOf h ≡ ballotOf k
-shown-alike-sends-alike h k i a b = D.a-head-sends-what-line-6-sends h i a ∙ sym (D.a-head-sends-what-line-6-sends k i b)
+shown-alike-sends-alike h k i a b =
+    D.a-head-sends-what-line-6-sends h i a ∙ sym (D.a-head-sends-what-line-6-sends k i b)
 
 -- case 6: line 25 finds 1 and not 0; case 7: line 22 finds a majority of 1 and none of 0
 abbrev split : Handed
@@ -191,15 +202,18 @@ line-22-finds-one-majority z = D.both-bits-are-never-there 3 0 1 refl (first ∷
 
 -- a record that is ticked twice, whatever with: the head's record
 pub ticked-twice : (h : Head) (l m : List ℕ) (coin other : ℕ)
-    → recordAfterTick (recordAfterTick (recordOf h) l coin) m other ≡ recordOf (tickOf (tickOf h l coin .head) m other .head)
+    → recordAfterTick (recordAfterTick (recordOf h) l coin) m other
+    ≡ recordOf (tickOf (tickOf h l coin .head) m other .head)
 ticked-twice h l m coin other =
-    ap (λ (r : List ℕ). recordAfterTick r m other) (D.tick-on-a-record h l coin) ∙ D.tick-on-a-record (tickOf h l coin .head) m other
+    ap (λ (r : List ℕ). recordAfterTick r m other) (D.tick-on-a-record h l coin)
+    ∙ D.tick-on-a-record (tickOf h l coin .head) m other
 
 -- bytes that are started and then ticked
 pub started-then-ticked : (r l : List ℕ) (n own proposal coin : ℕ)
     → startNumberFromC r n own proposal ≡ 0
     → tickNumberFromC (recordAfterStart r n own proposal) l coin ≡ 0
-    → headAt (recordAfterTick (recordAfterStart r n own proposal) l coin) ≡ tickOf (startOf n own proposal .head) l coin .head
+    → headAt (recordAfterTick (recordAfterStart r n own proposal) l coin)
+    ≡ tickOf (startOf n own proposal .head) l coin .head
 started-then-ticked r l n own proposal coin started ticked =
     D.a-tick-from-c-is-the-tick (recordAfterStart r n own proposal) l coin ticked
     ∙ ap (λ (h : Head). tickOf h l coin .head) (D.a-start-from-c-is-the-start r n own proposal started)
@@ -220,7 +234,8 @@ pub one-writing : (k l : List ℕ) → ((i : ℕ) → getD k i 0 < 256) → ((i 
 one-writing k l small few = D.accepted-bytes-are-the-only-ones 32 2 k l small few
 
 -- two lists that any heads accept and that hold one ballot at an index have the same bytes there
-pub one-writing-in-lists : (h g : Head) (k l : List ℕ) (coin other : ℕ) → ((i : ℕ) → getD k i 0 < 256) → ((i : ℕ) → getD l i 0 < 256)
+pub one-writing-in-lists : (h g : Head) (k l : List ℕ) (coin other : ℕ)
+    → ((i : ℕ) → getD k i 0 < 256) → ((i : ℕ) → getD l i 0 < 256)
     → tickNumber h k coin ≡ 0 → tickNumber g l other ≡ 0 → (i j : ℕ) → i < ballots k → j < ballots l
     → ballotAt k i ≡ ballotAt l j → fiveAt k i ≡ fiveAt l j
 one-writing-in-lists h g k l coin other small few a b i j p q same =
@@ -230,8 +245,8 @@ one-writing-in-lists h g k l coin other small few a b i j p q same =
 
 -- ---- Demand 3
 
--- "in any order, with lists of at most 64 ballots that these heads sent earlier in the vote .. and any coin bits": each such
--- tick goes on with a run
+-- "in any order, with lists of at most 64 ballots that these heads sent earlier in the vote .. and any coin bits": each
+-- such tick goes on with a run
 pub any-such-tick-goes-on : (vote : Vote) (events : List Event) (e : Event) → Run vote events → e .head < vote .n
     → length (e .bytes) % 5 ≡ 0 → length (e .bytes) ≤ 320
     → ((i : ℕ) → i < length (e .bytes) / 5 → (b : Ballot) × Sent vote events b × (fiveAt (e .bytes) i ≡ bytesOf b))
@@ -246,18 +261,22 @@ any-proper-vote-begins n proposal many few bits = record { heads = (many, few); 
 
 -- the run of 64 late and repeated ballots: its tick is not refused, its heads do what Algorithm 1 does
 pub a-late-tick-is-not-refused : NotRefusedBeforeTheLastPhase three (oneSteps ∷ []) lateAndRepeated
-a-late-tick-is-not-refused = D.no-tick-is-refused-before-the-last-phase three (oneSteps ∷ []) lateAndRepeated late-and-repeated-is-a-run
+a-late-tick-is-not-refused =
+    D.no-tick-is-refused-before-the-last-phase three (oneSteps ∷ []) lateAndRepeated late-and-repeated-is-a-run
 
-pub head-1-of-it : Shows (headIn three (oneSteps ∷ []) 1) (processAfter 3 1 1 (record { bytes = oneSteps .bytes; coin = 0 } ∷ []))
+pub head-1-of-it : Shows (headIn three (oneSteps ∷ []) 1)
+    (processAfter 3 1 1 (record { bytes = oneSteps .bytes; coin = 0 } ∷ []))
 unfolding computing
-head-1-of-it = D.each-head-of-a-run-does-what-algorithm-1-does three (oneSteps ∷ []) (late-and-repeated-is-a-run .0) 1 (lit< tt)
+head-1-of-it =
+    D.each-head-of-a-run-does-what-algorithm-1-does three (oneSteps ∷ []) (late-and-repeated-is-a-run .0) 1 (lit< tt)
 
 -- a round in which every ballot is lost goes on with it
 abbrev silence : Channel
 silence = record { lost = λ receiver sender. true; coin = λ s. 1 }
 
 pub silence-goes-on : Run three (round three (lateAndRepeated ∷ oneSteps ∷ []) silence)
-silence-goes-on = D.rounds-are-runs three (lateAndRepeated ∷ oneSteps ∷ []) silence late-and-repeated-is-a-run (λ s h. lit< tt)
+silence-goes-on =
+    D.rounds-are-runs three (lateAndRepeated ∷ oneSteps ∷ []) silence late-and-repeated-is-a-run (λ s h. lit< tt)
 
 -- the decisions that the firmware's records hold never differ: of any vote, at any point, in any bytes
 pub records-never-differ : (vote : Vote) (events : List Event) → Run vote events → (lent : ℕ → List ℕ)
@@ -268,16 +287,22 @@ pub records-never-differ : (vote : Vote) (events : List Event) → Run vote even
 records-never-differ vote events run lent twenty s t hs ht ws wt =
     let a = byte s hs in
     let b = byte t ht in
-    a ∙ ap decisionCode (D.no-two-decisions-differ vote events run s t hs ht (written _ (omega (arith, a, ws))) (written _ (omega (arith, b, wt)))) ∙ sym b
+    let sa = written (headIn vote events s .decision) (omega (arith, a, ws)) in
+    let sb = written (headIn vote events t .decision) (omega (arith, b, wt)) in
+    a ∙ ap decisionCode (D.no-two-decisions-differ vote events run s t hs ht sa sb) ∙ sym b
   where
-    byte : (s : ℕ) → s < vote .n → getD (recordIn vote lent events s) 6 0 ≡ decisionCode (headIn vote events s .decision)
-    byte s h = ap (λ (r : List ℕ). getD r 6 0) (D.records-hold-the-heads vote (run-proper vote events run) lent twenty events s h)
+    byte : (s : ℕ) → s < vote .n
+        → getD (recordIn vote lent events s) 6 0 ≡ decisionCode (headIn vote events s .decision)
+    byte s h =
+        let proper = run-proper vote events run in
+        ap (λ (r : List ℕ). getD r 6 0) (D.records-hold-the-heads vote proper lent twenty events s h)
 
     written : (decision : Decision) → decisionCode decision < 2 → decision ≡ Unwritten → ⊥
     written decision low e = omega (arith, low, ap decisionCode e)
 
 -- where all propose 1, no decision is for 0
-pub nobody-proposed-0 : (events : List Event) → Run three events → (s : ℕ) → s < 3 → WrittenDecision (headIn three events s)
+pub nobody-proposed-0 : (events : List Event) → Run three events → (s : ℕ) → s < 3
+    → WrittenDecision (headIn three events s)
     → headIn three events s .decision ≡ ForOne
 unfolding computing
 nobody-proposed-0 events run s h w = D.each-was-proposed three events run s h w .2
@@ -285,7 +310,8 @@ nobody-proposed-0 events run s h w = D.each-was-proposed three events run s h w 
 -- forged ballots do not change a written decision either
 pub forged-ballots-change-no-decision : (vote : Vote) (events : List Event) (forged : List ℕ) (coin s : ℕ) → s < vote .n
     → WrittenDecision (headIn vote events s)
-    → headIn vote (record { head = s; bytes = forged; coin = coin } ∷ events) s .decision ≡ headIn vote events s .decision
+    → headIn vote (record { head = s; bytes = forged; coin = coin } ∷ events) s .decision
+    ≡ headIn vote events s .decision
 forged-ballots-change-no-decision vote events forged coin s h w =
     D.a-written-one-stays vote events (record { head = s; bytes = forged; coin = coin } ∷ []) s h w
 
@@ -293,14 +319,20 @@ forged-ballots-change-no-decision vote events forged coin s h w =
 abbrev beyond : Channel
 beyond = record { lost = λ receiver sender. leb 3 sender; coin = λ s. 1 }
 
-pub two-of-three-by-the-theorem : EveryHeadDecides (twoOfThree 0 1) (round (twoOfThree 0 1) (round (twoOfThree 0 1) [] beyond) beyond) 0
+loses-nothing : LosesNothing (twoOfThree 0 1) beyond
+loses-nothing receiver sender r s = lt-leb 3 sender s
+
+pub two-of-three-by-the-theorem : let vote = twoOfThree 0 1 in
+    EveryHeadDecides vote (round vote (round vote [] beyond) beyond) 0
 unfolding count
 two-of-three-by-the-theorem =
-    D.two-lossless-rounds-decide (twoOfThree 0 1) (two-of-three 0 1 (lit< tt) (lit< tt)) 0 (lit< tt) (lit< tt) beyond beyond
-    (λ receiver sender r s. lt-leb 3 sender s) (λ receiver sender r s. lt-leb 3 sender s) (λ s h. lit< tt) (λ s h. lit< tt)
+    let proper = two-of-three 0 1 (lit< tt) (lit< tt) in
+    D.two-lossless-rounds-decide (twoOfThree 0 1) proper 0 (lit< tt) (lit< tt) beyond beyond loses-nothing loses-nothing
+    (λ s h. lit< tt) (λ s h. lit< tt)
 
 -- ---- the sixteen: the last of them
 
-pub case-16 : tickOf (start 3) (encode (ballot 1 5 Zero d ∷ ballot 2 5 One u ∷ [])) 0 ≡ record { number = 11; head = start 3 }
+pub case-16 : tickOf (start 3) (encode (ballot 1 5 Zero d ∷ ballot 2 5 One u ∷ [])) 0
+    ≡ record { number = 11; head = start 3 }
 unfolding sixteen
 case-16 = ap (λ (list : List Ticked). getD list 16 (record { number = 0; head = zeroHead })) D.sixteen-ticks

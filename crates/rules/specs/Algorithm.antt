@@ -1,6 +1,6 @@
--- Algorithm 1 of "Randomization can be a healer: consensus with dynamic omission failures", over the whole set of ballots
--- heard so far, counted by sender, with document 01's choices: the highest phase, its lowest sender, the coin handed in.
--- It knows no heard sets, no records and no refusals. Line numbers are the paper's.
+-- Algorithm 1 of "Randomization can be a healer: consensus with dynamic omission failures", over the whole set of
+-- ballots heard so far, counted by sender, with document 01's choices: the highest phase, its lowest sender, the coin
+-- handed in. It knows no heard sets, no records and no refusals. Line numbers are the paper's.
 use Prim.Native.Nat.{ℕ, _+_, _%_}
 use mathlib.Core.List.{List, [], _∷_, _++_}
 use mathlib.Core.Bool.{Bool, false, cond, _&&_, _||_, not}

@@ -31,8 +31,8 @@ At this P place = P × (place ≡ this)
 abbrev pub _exactly-when_ : ℕ → Type 0 → Row
 number exactly-when P = number exactly-at At 0 P
 
--- "The first that applies, in this order": number's line applies at the place, and no earlier line applies anywhere; "0 is
--- accepted", where none does
+-- "The first that applies, in this order": number's line applies at the place, and no earlier line applies anywhere; "0
+-- is accepted", where none does
 abbrev pub Given : ℕ → ℕ → List Row → Type 0
 Given number place [] = (number ≡ 0) × (place ≡ 0)
 Given number place ((k exactly-at Applies) ∷ later) =
@@ -45,13 +45,13 @@ Heads n = (2 ≤ n) × (n ≤ 32)
 -- "Ballot rules, by phase", of a phase, a value's code and a status's code
 pub data Obeys (phase value status : ℕ) : Type 0 where
   -- "Phase 1: value 0 or 1, undecided."
-  first : phase ≡ 1 → value < 2 → status ≡ 0 → Obeys phase value status
+  phase-1 : phase ≡ 1 → value < 2 → status ≡ 0 → Obeys phase value status
   -- "Phase 2: any value, undecided."
-  second : phase ≡ 2 → value < 3 → status ≡ 0 → Obeys phase value status
+  phase-2 : phase ≡ 2 → value < 3 → status ≡ 0 → Obeys phase value status
   -- "Odd from 3: value 0 or 1, either status."
-  odd : 3 ≤ phase → phase % 2 ≡ 1 → value < 2 → status < 2 → Obeys phase value status
+  odd-from-3 : 3 ≤ phase → phase % 2 ≡ 1 → value < 2 → status < 2 → Obeys phase value status
   -- "Even from 4: any value; blank only when undecided."
-  even : 4 ≤ phase → phase % 2 ≡ 0 → value < 3 → status < 2 → (value ≡ 2 → status ≡ 0) → Obeys phase value status
+  even-from-4 : 4 ≤ phase → phase % 2 ≡ 0 → value < 3 → status < 2 → (value ≡ 2 → status ≡ 0) → Obeys phase value status
 
 -- "a ballot breaks a ballot rule", the one at index i; "Sender below n."
 abbrev pub Breaks : ℕ → List ℕ → ℕ → Type 0
@@ -97,7 +97,8 @@ Other b v s = (b .value ≡ v → ⊥) ⊎ (b .status ≡ s → ⊥)
 
 -- "a ballot under the head's own number has a higher phase, or the same phase and another value or status"
 abbrev pub OwnOtherwise : Head → Ballot → Type 0
-OwnOtherwise h b = (b .sender ≡ h .own) × ((h .phase < b .phase) ⊎ ((b .phase ≡ h .phase) × Other b (h .value) (h .status)))
+OwnOtherwise h b =
+    (b .sender ≡ h .own) × ((h .phase < b .phase) ⊎ ((b .phase ≡ h .phase) × Other b (h .value) (h .status)))
 
 -- "two ballots of one sender and phase differ"
 abbrev pub Differ : Ballot → Ballot → Type 0
@@ -114,8 +115,8 @@ SomeBallot l P = (i : ℕ) × (i < ballots l) × P i
 abbrev pub TwoBallots : List ℕ → (Ballot → Ballot → Type 0) → Type 0
 TwoBallots l P = SomeBallot l (λ i. (j : ℕ) × (j < i) × P (ballotAt l j) (ballotAt l i))
 
--- Whom a head hears after steps 1 and 2: those held under v before, if it is at the same phase still, and the senders of the
--- ballots of its phase that say v.
+-- Whom a head hears after steps 1 and 2: those held under v before, if it is at the same phase still, and the senders
+-- of the ballots of its phase that say v.
 abbrev pub HeldOrSent : Head → List ℕ → Value → ℕ → Type 0
 HeldOrSent h l v s =
     let phase = moved h l .phase in
@@ -166,8 +167,8 @@ laterTable h l coin =
     ∷ (6 exactly-when SomeBallot l (Breaks (h .n) l))
     -- "a ballot under the head's own number has a higher phase, or the same phase and another value or status"
     ∷ (7 exactly-when SomeBallot l (λ i. OwnOtherwise h (ballotAt l i)))
-    -- "two ballots of one sender and phase differ; or one at the present phase differs in value from what that sender is
-    -- held under"
+    -- "two ballots of one sender and phase differ; or one at the present phase differs in value from what that sender
+    -- is held under"
     ∷ (8 exactly-when (TwoBallots l Differ ⊎ SomeBallot l (λ i. HeldOtherwise h (ballotAt l i))))
     -- "after step 2, phase even and both 0 and 1 heard"
     ∷ (9 exactly-when ((gathered h l .phase % 2 ≡ 0) × HeardAtAll (gathered h l) Zero × HeardAtAll (gathered h l) One))

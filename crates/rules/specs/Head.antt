@@ -2,6 +2,7 @@
 use Prim.Native.Nat.{ℕ, _%_}
 use mathlib.Core.List.{List, [], _∷_}
 use mathlib.Core.Bool.{Bool, cond, _&&_, _||_, not}
+use lib.ListN.{replicate}
 use lib.Dec.{ltb, leb, eqb}
 use Rattle.rules.specs.declared.Value.{Value}
 use Rattle.rules.specs.declared.Value.the-variants.{Zero, One, Blank}
@@ -17,8 +18,8 @@ use Rattle.rules.specs.Number.{Line, _when_, firstThatApplies}
 use Rattle.rules.specs.Ballot.{valueCode, valueOf, statusCode, sameValue, bytesOf, obeys, notHeads}
 use Rattle.rules.specs.Heard.{member, apart, within, heard}
 
--- "A head has: the number of heads n, its own number, phase .., value .., status .., decision .., and three sets of head
--- numbers": those that it holds under each value
+-- "A head has: the number of heads n, its own number, phase .., value .., status .., decision .., and three sets of
+-- head numbers": those that it holds under each value
 abbrev pub headWith : ℕ → ℕ → ℕ → Value → Status → Decision → (Value → ℕ) → Head
 headWith n own phase value status decision held =
     record {
@@ -127,4 +128,4 @@ ballotOf h = record { sender = h .own; value = h .value; status = h .status; pha
 
 -- "writing the ballot of a sound head gives those five bytes, of an unsound one refusal 3 and five zeros"
 unfoldable pub sendOf : Head → Written
-sendOf h = record { number = cond (sound h) 0 3; bytes = cond (sound h) (bytesOf (ballotOf h)) (0 ∷ 0 ∷ 0 ∷ 0 ∷ 0 ∷ []) }
+sendOf h = record { number = cond (sound h) 0 3; bytes = cond (sound h) (bytesOf (ballotOf h)) (replicate 5 0) }

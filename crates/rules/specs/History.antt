@@ -1,5 +1,5 @@
--- Histories of one head: a start and a sequence of ticks, each with its bytes and its coin; and the process of Algorithm 1
--- that has heard the same.
+-- Histories of one head: a start and a sequence of ticks, each with its bytes and its coin; and the process of
+-- Algorithm 1 that has heard the same.
 use Prim.Native.Nat.{ℕ, zero, suc, _*_, _%_, _≤_, _<_}
 use mathlib.Core.Path.{_≡_}
 use mathlib.Core.List.{List, [], _∷_, List·Memᴰ}
@@ -47,8 +47,8 @@ processAfter n own proposal [] = lines1to4 n own proposal
 processAfter n own proposal (t ∷ ticks) =
     clockTick (processAfter n own proposal ticks) (ballotsIn (t .bytes)) (t .coin)
 
--- Demand 2: "does what Algorithm 1 .. does with all ballots heard so far"; "the three sets give the same result as the whole
--- set of source document 002, counted by sender"
+-- Demand 2: "does what Algorithm 1 .. does with all ballots heard so far"; "the three sets give the same result as the
+-- whole set of source document 002, counted by sender"
 pub record Shows (h : Head) (i : Process) : Type 0 where
   pub n : h .n ≡ i .n
   pub own : h .own ≡ i .own

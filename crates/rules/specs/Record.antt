@@ -46,13 +46,15 @@ headAt r =
 unfoldable pub notSound : List ℕ → Bool
 notSound r = not (isRecord r && sound (headAt r))
 
--- A start from C: 1, 2, then 3, "at a start from C, record not 20 bytes"; "from C the record is unchanged" where refused.
+-- A start from C: 1, 2, then 3, "at a start from C, record not 20 bytes"; "from C the record is unchanged" where
+-- refused.
 unfoldable pub startNumberFromC : List ℕ → ℕ → ℕ → ℕ → ℕ
 startNumberFromC r n own proposal =
     firstThatApplies (startLines n own proposal ++ (3 when not (eqb (length r) 20)) ∷ [])
 
 unfoldable pub recordAfterStart : List ℕ → ℕ → ℕ → ℕ → List ℕ
-recordAfterStart r n own proposal = cond (eqb (startNumberFromC r n own proposal) 0) (recordOf (startOf n own proposal .head)) r
+recordAfterStart r n own proposal =
+    cond (eqb (startNumberFromC r n own proposal) 0) (recordOf (startOf n own proposal .head)) r
 
 -- A tick from C: 3, and then what a tick asks of the head; refused, "no byte of a lent record .. changes".
 unfoldable pub tickNumberFromC : List ℕ → List ℕ → ℕ → ℕ
@@ -67,4 +69,5 @@ unfoldable pub sendNumberFromC : List ℕ → List ℕ → ℕ
 sendNumberFromC r buffer = firstThatApplies ((3 when notSound r) ∷ (5 when not (eqb (length buffer) 5)) ∷ [])
 
 unfoldable pub bufferAfterSend : List ℕ → List ℕ → List ℕ
-bufferAfterSend r buffer = cond (eqb (sendNumberFromC r buffer) 0) (bytesOf (ballotOf (headAt r))) (replicate (length buffer) 0)
+bufferAfterSend r buffer =
+    cond (eqb (sendNumberFromC r buffer) 0) (bytesOf (ballotOf (headAt r))) (replicate (length buffer) 0)

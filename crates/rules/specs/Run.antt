@@ -1,6 +1,6 @@
--- Runs of a whole vote, as demand 3 has them: "Start n heads once each, numbered 0 to n - 1 .. Tick them in any order, with
--- lists of at most 64 ballots that these heads sent earlier in the vote, any of them lost, late or repeated, and any coin
--- bits."
+-- Runs of a whole vote, as demand 3 has them: "Start n heads once each, numbered 0 to n - 1 .. Tick them in any order,
+-- with lists of at most 64 ballots that these heads sent earlier in the vote, any of them lost, late or repeated, and
+-- any coin bits."
 use Prim.Native.Nat.{ℕ, _*_, _%_, _≤_, _<_}
 use mathlib.Core.Path.{_≡_}
 use mathlib.Core.List.{List, [], _∷_, _++_}
@@ -77,7 +77,8 @@ Run vote (e ∷ events) = Run vote events × Allowed vote events e
 -- "No two decisions differ"
 abbrev pub NoTwoDecisionsDiffer : Vote → List Event → Type 0
 NoTwoDecisionsDiffer vote events =
-    (s t : ℕ) → s < vote .n → t < vote .n → WrittenDecision (headIn vote events s) → WrittenDecision (headIn vote events t)
+    (s t : ℕ) → s < vote .n → t < vote .n
+    → WrittenDecision (headIn vote events s) → WrittenDecision (headIn vote events t)
     → headIn vote events s .decision ≡ headIn vote events t .decision
 
 -- "each was proposed by some head"
@@ -89,7 +90,8 @@ EachWasProposed vote events =
 -- "a written one stays"
 abbrev pub AWrittenOneStays : Vote → List Event → List Event → Type 0
 AWrittenOneStays vote events later =
-    (s : ℕ) → s < vote .n → WrittenDecision (headIn vote events s) → headIn vote (later ++ events) s .decision ≡ headIn vote events s .decision
+    (s : ℕ) → s < vote .n → WrittenDecision (headIn vote events s)
+    → headIn vote (later ++ events) s .decision ≡ headIn vote events s .decision
 
 -- "no tick is refused unless its step needs phase 65,536": of the tick that comes after the events
 abbrev pub NotRefusedBeforeTheLastPhase : Vote → List Event → Event → Type 0

@@ -64,7 +64,10 @@ case7 = head 3 3 One d ForOne
 unfoldable pub sixteen : List Said
 sixteen =
     -- 1
-    record { gives = record { number = startOf 3 0 1 .number; head = start 3 }; after = record { number = 0; head = case1 } }
+    record {
+      gives = record { number = startOf 3 0 1 .number; head = start 3 };
+      after = record { number = 0; head = case1 };
+    }
     -- 2
     ∷ ticks case1 (ballot 0 1 One u ∷ ballot 1 1 One u ∷ []) 0 case2
     -- 3: "0 and 1 held under 1"

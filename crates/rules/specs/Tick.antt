@@ -45,7 +45,8 @@ heardWith h l v = setOf 32 (λ s. member s (heard h v) || some (ballots l) (λ i
 unfoldable pub added : Head → List ℕ → Head
 added h l = headWith (h .n) (h .own) (h .phase) (h .value) (h .status) (h .decision) (heardWith h l)
 
--- The head after steps 1 and 2. Only ballots of the phase that step 2 ends at are held, so they are added at that phase.
+-- The head after steps 1 and 2. Only ballots of the phase that step 2 ends at are held, so they are added at that
+-- phase.
 unfoldable pub gathered : Head → List ℕ → Head
 gathered h l = added (moved h l) l
 

@@ -9,7 +9,7 @@ use lib.ListN.{length, getD}
 use lib.Dec.{ltb, leb}
 use borrow.Author.Tests.{lt-ltb, le-ltb, le-leb, lt-leb}
 use Rattle.rules.specs.Below.{first}
-use Rattle.rules.proofs.Below.{first-le}
+use Rattle.rules.proofs.Counting.Below.{first-le}
 use Rattle.file.specs.declared.Section.{Section}
 use Rattle.file.specs.Section.{bodyOf, firstBroken, unlessBroken, checked, notBit, notNeed}
 use Rattle.run.specs.Sections.{outside}

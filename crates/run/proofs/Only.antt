@@ -13,7 +13,7 @@ use ghost.Atoms.{Atoms}
 use contract.Monad.{Fun, fact}
 use denote.Ref.{now}
 use Rattle.rules.specs.declared.Head.{Head}
-use Rattle.rules.proofs.Answers.{only}
+use Rattle.rules.proofs.Meaning.Answers.{only}
 use Rattle.file.specs.declared.Outcome.{Outcome}
 use Rattle.file.specs.declared.Benched.{Benched}
 use Rattle.file.specs.Table.{tableAfter}

@@ -18,8 +18,8 @@ use Rattle.rules.specs.Heard.{member}
 use Rattle.rules.specs.Head.{zeroHead, isDecided, ballotOf}
 use Rattle.rules.specs.Tick.{tickOf}
 use Rattle.rules.specs.Record.{fourBytesAt}
-use Rattle.rules.proofs.Below.{count-le}
-use Rattle.rules.proofs.Sets.{member-none}
+use Rattle.rules.proofs.Counting.Below.{count-le}
+use Rattle.rules.proofs.Counting.Sets.{member-none}
 use Rattle.file.specs.Table.{headOf, placed, receivedIn, tickedIn, roundIn}
 use Rattle.file.specs.Figures.{decidedIn}
 use Rattle.run.specs.declared.heads.Survey.{Survey}

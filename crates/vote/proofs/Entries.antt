@@ -13,8 +13,8 @@ use Rattle.rules.specs.Number.{firstThatApplies}
 use Rattle.rules.specs.Head.{sound, startOf, sendOf}
 use Rattle.rules.specs.Tick.{tickOf}
 use Rattle.rules.specs.Record.{recordOf, isRecord, headAt, notSound, startNumberFromC, recordAfterStart, tickNumberFromC, recordAfterTick, sendNumberFromC, bufferAfterSend}
-use Rattle.rules.proofs.Answers.{start-number, starts-number, tick-number, send-sound, send-unsound, send-bytes}
-use Rattle.rules.proofs.FromC.{tick-number-from-c}
+use Rattle.rules.proofs.Meaning.Answers.{start-number, starts-number, tick-number, send-sound, send-unsound, send-bytes}
+use Rattle.rules.proofs.Layouts.FromC.{tick-number-from-c}
 
 -- ---- a start
 

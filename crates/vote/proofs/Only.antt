@@ -2,7 +2,7 @@
 -- are equal. Stated over the promises themselves, as the functions carry them.
 use mathlib.Core.Path.{_≡_}
 use denote.Ref.{now}
-use Rattle.rules.proofs.Answers.{only}
+use Rattle.rules.proofs.Meaning.Answers.{only}
 use Rattle.vote.proofs.vote_ballot.Reads as vote-ballot
 use Rattle.vote.proofs.vote_start.Reads as vote-start
 use Rattle.vote.proofs.vote_tick.Reads as vote-tick

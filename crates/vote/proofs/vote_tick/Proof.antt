@@ -1,7 +1,7 @@
 use mathlib.Core.Path.{sym, _∙_}
 use borrow.Author.Tests.{not-true, not-false}
 use borrow.Author.Needs.{needs}
-use Rattle.rules.proofs.Answers.{record-length}
+use Rattle.rules.proofs.Meaning.Answers.{record-length}
 use Rattle.vote.proofs.Entries.{tick-no-record, tick-refused, tick-stores}
 use Rattle.vote.proofs.vote_tick.Statement.{statement}
 use Rattle.vote.proofs.vote_tick.Tie as tie

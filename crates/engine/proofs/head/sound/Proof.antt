@@ -1,6 +1,6 @@
 use Rattle.rules.specs.Head.{sound}
 use borrow.Author.Tests.{lt-ltb, le-ltb}
-use Rattle.rules.proofs.Meanings.{heads}
+use Rattle.rules.proofs.Meaning.Meanings.{heads}
 use mathlib.Core.Path.{sym, _∙_}
 use borrow.Author.Needs.{needs}
 use Rattle.engine.proofs.head.sound.Statement.{statement}

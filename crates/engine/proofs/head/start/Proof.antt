@@ -1,8 +1,8 @@
 use Rattle.rules.specs.Head.{startOf, startNumber}
 use Rattle.rules.specs.Number.{firstThatApplies}
 use borrow.Author.Tests.{lt-ltb, le-ltb, ltb-true, not-false}
-use Rattle.rules.proofs.Meanings.{heads}
-use Rattle.rules.proofs.Truth.{or-left-false, or-right-false}
+use Rattle.rules.proofs.Meaning.Meanings.{heads}
+use Rattle.rules.proofs.Counting.Truth.{or-left-false, or-right-false}
 use mathlib.Core.Path.{sym, _∙_}
 use lib.Dec.{ltb}
 use borrow.Author.Needs.{needs}

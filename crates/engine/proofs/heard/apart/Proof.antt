@@ -1,4 +1,4 @@
-use Rattle.rules.proofs.Sets.{apart-and}
+use Rattle.rules.proofs.Counting.Sets.{apart-and}
 use Rattle.engine.proofs.heard.apart.Statement.{statement}
 use Rattle.engine.proofs.heard.apart.Tie as tie
 

@@ -1,4 +1,4 @@
-use Rattle.rules.proofs.Sets.{member-high}
+use Rattle.rules.proofs.Counting.Sets.{member-high}
 use mathlib.Core.Path.{sym}
 use borrow.Author.Needs.{needs}
 use Rattle.engine.proofs.heard.member.Statement.{statement}

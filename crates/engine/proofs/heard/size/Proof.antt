@@ -1,4 +1,4 @@
-use Rattle.rules.proofs.Sets.{size-ones}
+use Rattle.rules.proofs.Counting.Sets.{size-ones}
 use Rattle.engine.proofs.heard.size.Statement.{statement}
 use Rattle.engine.proofs.heard.size.Tie as tie
 

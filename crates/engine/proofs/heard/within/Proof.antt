@@ -1,4 +1,4 @@
-use Rattle.rules.proofs.Sets.{shifted}
+use Rattle.rules.proofs.Counting.Sets.{shifted}
 use borrow.Author.Needs.{needs}
 use native.Mathlib.Omega.{arith}
 use Rattle.engine.proofs.heard.within.Statement.{statement}

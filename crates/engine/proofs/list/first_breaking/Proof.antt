@@ -1,6 +1,6 @@
 use Prim.Native.Nat.{_-_, _≤_}
 use mathlib.Core.Path.{sym, _∙_}
-use Rattle.rules.proofs.Below.{NoneBefore, none-more, search-starts, search-finds, search-ends}
+use Rattle.rules.proofs.Counting.Below.{NoneBefore, none-more, search-starts, search-finds, search-ends}
 use Rattle.rules.specs.Ballot.{breaksRule}
 use native.Mathlib.Omega.{arith}
 use Rattle.engine.proofs.list.first_breaking.Statement.{statement}

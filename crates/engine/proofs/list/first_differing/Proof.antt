@@ -1,6 +1,6 @@
 use Prim.Native.Nat.{_-_, _≤_}
 use mathlib.Core.Path.{sym, ap₂, _∙_}
-use Rattle.rules.proofs.Below.{NoneBefore, none-more, search-starts, search-finds, search-ends}
+use Rattle.rules.proofs.Counting.Below.{NoneBefore, none-more, search-starts, search-finds, search-ends}
 use Rattle.rules.specs.Ballot.{ballotAt}
 use Rattle.rules.specs.Tick.{differ}
 use native.Mathlib.Omega.{arith}

@@ -4,8 +4,8 @@ use borrow.Author.Tests.{ltb-true}
 use Rattle.rules.specs.declared.Head.{Head}
 use Rattle.rules.specs.Ballot.{ballotAt}
 use Rattle.rules.specs.Tick.{gathered, added, copying}
-use Rattle.rules.proofs.Truth.{and-left}
-use Rattle.rules.proofs.Leader.{moved-copies, moved-stays}
+use Rattle.rules.proofs.Counting.Truth.{and-left}
+use Rattle.rules.proofs.OneTick.Leader.{moved-copies, moved-stays}
 use borrow.Author.Needs.{needs}
 use Rattle.engine.proofs.list.gathered.Statement.{statement}
 use Rattle.engine.proofs.list.gathered.Tie as tie

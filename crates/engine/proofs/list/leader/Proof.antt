@@ -1,6 +1,6 @@
 use Prim.Native.Nat.{ℕ, _+_, _-_, _≤_}
 use mathlib.Core.Path.{sym, subst}
-use Rattle.rules.proofs.Leader.{Leads, leads-start, leads-more, leads-all}
+use Rattle.rules.proofs.OneTick.Leader.{Leads, leads-start, leads-more, leads-all}
 use native.Mathlib.Omega.{arith}
 use Rattle.engine.proofs.list.leader.Statement.{statement}
 use Rattle.engine.proofs.list.leader.Tie as tie

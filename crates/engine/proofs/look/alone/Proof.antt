@@ -1,5 +1,5 @@
 use mathlib.Core.Path.{_∙_}
-use Rattle.rules.proofs.Sets.{shifted}
+use Rattle.rules.proofs.Counting.Sets.{shifted}
 use Rattle.engine.proofs.Growing.{one-alone, none-alone}
 use borrow.Author.Needs.{needs}
 use Rattle.engine.proofs.look.alone.Statement.{statement}

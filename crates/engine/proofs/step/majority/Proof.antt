@@ -1,5 +1,5 @@
 use Rattle.rules.specs.Tick.{majority}
-use Rattle.rules.proofs.Sets.{size-le}
+use Rattle.rules.proofs.Counting.Sets.{size-le}
 use Rattle.rules.specs.Heard.{heard}
 use borrow.Author.Needs.{needs}
 use native.Mathlib.Omega.{arith}

@@ -1,5 +1,5 @@
 use Rattle.rules.specs.Tick.{quorum}
-use Rattle.rules.proofs.Sets.{size-le}
+use Rattle.rules.proofs.Counting.Sets.{size-le}
 use borrow.Author.Needs.{needs}
 use native.Mathlib.Omega.{arith}
 use Rattle.engine.proofs.step.quorum.Statement.{statement}

@@ -8,7 +8,7 @@ use Rattle.rules.specs.declared.Head.{Head}
 use Rattle.rules.specs.declared.Ticked.{Ticked}
 use Rattle.rules.specs.Head.{sound}
 use Rattle.rules.specs.Tick.{ballots, gathered}
-use Rattle.rules.proofs.Meanings.{means-sound}
+use Rattle.rules.proofs.Meaning.Meanings.{means-sound}
 use Rattle.engine.specs.declared.look.Look.{Look}
 use Rattle.engine.specs.Look.{listened, lookAt, shown, isPlain}
 use Rattle.engine.proofs.Listening.{list-accepted}

@@ -1,5 +1,5 @@
 use native.Mathlib.Omega.{arith}
-use Rattle.rules.proofs.Sets.{size-ones, size-le}
+use Rattle.rules.proofs.Counting.Sets.{size-ones, size-le}
 use Rattle.run.proofs.figures.ones.Statement.{statement}
 use Rattle.run.proofs.figures.ones.Tie as tie
 

@@ -4,7 +4,7 @@ use mathlib.Core.Path.{sym, ap, _∙_}
 use native.Mathlib.Omega.{arith}
 use borrow.Author.Needs.{needs}
 use Rattle.rules.specs.Heard.{within}
-use Rattle.rules.proofs.Below.{NoneBefore, none-more, search-starts, search-finds, search-ends}
+use Rattle.rules.proofs.Counting.Below.{NoneBefore, none-more, search-starts, search-finds, search-ends}
 use Rattle.file.specs.Section.{notRow}
 use Rattle.run.proofs.sections.first_not_row.Statement.{statement}
 use Rattle.run.proofs.sections.first_not_row.Tie as tie

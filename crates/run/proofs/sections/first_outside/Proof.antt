@@ -3,7 +3,7 @@ use mathlib.Core.Path.{sym, _∙_}
 use native.Mathlib.Omega.{arith}
 use lib.ListN.{length}
 use borrow.Author.Needs.{needs}
-use Rattle.rules.proofs.Below.{NoneBefore, none-more, search-starts, search-finds, search-ends}
+use Rattle.rules.proofs.Counting.Below.{NoneBefore, none-more, search-starts, search-finds, search-ends}
 use Rattle.run.specs.Sections.{outside}
 use Rattle.run.proofs.sections.first_outside.Statement.{statement}
 use Rattle.run.proofs.sections.first_outside.Tie as tie

@@ -1,6 +1,6 @@
 use native.Mathlib.Omega.{arith}
 use borrow.Author.Needs.{needs}
-use Rattle.rules.proofs.Sets.{shifted}
+use Rattle.rules.proofs.Counting.Sets.{shifted}
 use Rattle.run.proofs.sections.not_row.Statement.{statement}
 use Rattle.run.proofs.sections.not_row.Tie as tie
 

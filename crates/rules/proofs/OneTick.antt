@@ -1,0 +1,5 @@
+pub mod Hearing
+pub mod Leader
+pub mod Senders
+pub mod Soundness
+pub mod Starts

@@ -1,0 +1,4 @@
+pub mod AsAlgorithm
+pub mod BySender
+pub mod HeardSoFar
+pub mod HistoryInARun
