@@ -35,7 +35,7 @@ def definitions(places):
     half, side = places.half, places.half - 2 # the square lies inside the ring
     outline = 'stroke="%s" stroke-width="1.5"' % BLACK
     return "\n".join([
-        "<defs>",
+        '<defs aria-hidden="true">',
         '<circle id="zero" r="%d" fill="%s" %s/>' % (half, ORANGE, outline),
         '<rect id="one" x="-%d" y="-%d" width="%d" height="%d" fill="%s" %s/>' % (
             side, side, 2 * side, 2 * side, BLUE, outline),

@@ -4,6 +4,12 @@ from drawn import SVG, Drawn
 
 VALUE_MARKS = {"0": "#zero", "1": "#one", "blank": "#blank"}
 
+LEGEND = [(["#zero"], "value 0; the number is the phase"), (["#one"], "value 1"), (["#blank"], "value blank"),
+          (["#ring"], "status decided"), (["#flag1"], "decision written; its bit")]
+LINES_ENTRY = ([], "a ballot heard, sender to receiver")
+GRID_ENTRY = ([], "row: receiver; dark: sender lost to it")
+GOOD_ENTRY = (["#good"], "good round: lost at most the bound")
+
 
 def differences(text, expected, report):
     """In words, at most one of each kind."""
@@ -12,7 +18,7 @@ def differences(text, expected, report):
     if len(states) != expected.n * (expected.last + 1):
         return ["%d states are drawn" % len(states)]
     places = Places(states, expected)
-    found = [whole_difference(drawn, expected, report)]
+    found = [whole_difference(drawn, expected), label_difference(drawn, places, expected, report)]
     found.append(first(state_difference(states, expected)))
     found.append(first(round_difference(drawn, places, expected)))
     if expected.n <= 8:
@@ -35,19 +41,33 @@ class Places:
                      if self.columns[number - 1] < left <= right < self.columns[number]), None)
 
 
-def whole_difference(drawn, expected, report):
-    """The header, and that nothing drawn is without words, and nothing comes from outside."""
+def whole_difference(drawn, expected):
+    """The legend, and that nothing drawn is without words, and nothing comes from outside."""
+    entries = [(group.marks, group.title) for group in drawn.groups if group.texts[-1] == group.title]
+    if entries != LEGEND + [LINES_ENTRY if expected.n <= 8 else GRID_ENTRY, GOOD_ENTRY]:
+        return "the legend is %r" % entries
+    pairs = sum(len(expected.heard(number, head)) for number in expected.rounds for head in range(expected.n))
+    titles = 1 + len(expected.heads) + len(expected.rounds) + pairs * (expected.n <= 8) + len(entries)
+    if drawn.untitled or drawn.titles != titles:
+        return "%d titles, without title %r" % (drawn.titles, drawn.untitled)
+    if {SVG + "script", SVG + "image"} & drawn.tags or any(link[0] != "#" for link in drawn.links):
+        return "something comes from outside"
+    return None
+
+
+def label_difference(drawn, places, expected, report):
+    """The header, the columns' words at their columns, the heads' names at their rows."""
     figures = report[0].split() + report[-1].split()
     header = ["heads %s, need %s, bound %s, rounds %s" % tuple(figures[1:8:2]), "at the end: " + report[-1]]
-    entries = [group for group in drawn.groups if group.title in group.texts]
-    pairs = sum(len(expected.heard(number, head)) for number in expected.rounds for head in range(expected.n))
-    titles = 1 + len(expected.heads) + len(expected.rounds) + pairs * (expected.n <= 8) + 7
-    if drawn.header != header:
-        return "the header is %r" % drawn.header
-    if drawn.untitled or len(entries) != 7 or drawn.titles != titles:
-        return "%d titles, %d entries, without title %r" % (drawn.titles, len(entries), drawn.untitled)
-    if SVG + "script" in drawn.tags or SVG + "image" in drawn.tags or any(link[0] != "#" for link in drawn.links):
-        return "something comes from outside"
+    columns = [("after %d" % after if after else "start", x) for after, x in enumerate(places.columns)]
+    names = [("head %d" % head, y) for head, y in enumerate(places.rows)]
+    if [label.text for label in drawn.labels[:2]] != header:
+        return "the header is %r" % drawn.labels[:2]
+    if [(label.text, label.x) for label in drawn.labels[2:] if label.text[:4] != "head"] != columns:
+        return "the words of the columns differ"
+    given = [(label.text, label.y - 4) for label in drawn.labels[2:] if label.text[:4] == "head"]
+    if given != names * (1 + max(0, (expected.last - 1) // 32)):
+        return "the names of the heads differ"
     return None
 
 
@@ -70,6 +90,8 @@ def round_difference(drawn, places, expected):
         yield "%d rounds are drawn" % len(rounds)
     for number, group in enumerate(rounds, 1):
         lost, bound, good = expected.rounds[number]
+        if {places.round_at(x, x) for x in group.across} != {number}:
+            yield "round %d stands elsewhere" % number
         if group.title != expected.round_title(number):
             yield "round %d says '%s'" % (number, group.title)
         if group.texts != ["round %d" % number, "%d lost, bound %d" % (lost, bound)]:
@@ -97,7 +119,7 @@ def grid_difference(drawn, states, expected):
     grids = [group.grids[0] for group in drawn.groups if group.grids]
     if len(grids) != len(expected.rounds):
         yield "%d grids are drawn" % len(grids)
-    cell = drawn.cell() / expected.n if expected.rounds else 1
+    cell = drawn.grid_side() / expected.n
     for number, (left, top) in enumerate(grids, 1):
         for head in range(expected.n):
             strokes = states[number * expected.n + head].strokes

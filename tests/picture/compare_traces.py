@@ -34,7 +34,8 @@ def block_differences(expected, number, lines):
     told = {}
     for line in lines:
         named, every, words = HEADS.match(line).groups()
-        told.update((head, words) for head in (range(expected.n) if every else numbers(named)))
+        for head in range(expected.n) if every else numbers(named):
+            told[head] = "told twice" if head in told else words
     return ["round %d, head %d: '%s'" % (number, head, told.get(head))
             for head in range(expected.n) if told.get(head) != right.get(head)]
 

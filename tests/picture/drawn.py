@@ -10,14 +10,16 @@ LINE = re.compile("M%s %sL%s %s$" % (NUMBER, NUMBER, NUMBER, NUMBER))
 ROW = re.compile("M%s %s((?:m%s 0h%s)*)$" % (NUMBER, NUMBER, NUMBER, NUMBER))
 STROKE = re.compile("m%s 0h%s" % (NUMBER, NUMBER))
 
-# A group with a title, and what is drawn in it: marks used, texts, strokes as (x, y, length), places of a used grid.
-Group = namedtuple("Group", "title x y marks texts strokes grids")
+# A group with a title, and what is drawn in it: the marks used, the texts, strokes as (x, y, length), and the places
+# across the picture of all its texts and marks that have one. A text without a title is a label.
+Group = namedtuple("Group", "title x y marks texts strokes grids across")
 Line = namedtuple("Line", "title kind left top right bottom")
+Label = namedtuple("Label", "text x y")
 
 
 class Drawn:
     def __init__(self, text):
-        self.groups, self.lines, self.untitled, self.links, self.tags = [], [], [], [], set()
+        self.groups, self.lines, self.labels, self.untitled, self.links, self.tags = [], [], [], [], [], set()
         self.root = xml.fromstring(text)
         self.titles = len(self.root.findall(".//%stitle" % SVG))
         for child in self.root:
@@ -26,7 +28,6 @@ class Drawn:
         for element in self.root.iter():
             self.tags.add(element.tag)
             self.links += [value for key, value in element.attrib.items() if key.endswith("href")]
-        self.header = [child.text for child in self.root if child.tag == SVG + "text"]
 
     def read(self, element, x, y):
         """A group without a title only moves; all else that is drawn must be in one with a title."""
@@ -40,11 +41,12 @@ class Drawn:
         elif element.tag == SVG + "path" and title is not None:
             places = map(float, LINE.match(element.get("d")).groups())
             self.lines.append(Line(title, element.get("class"), *places))
-        elif element.tag != SVG + "text" and element.get("class") != "guide":
+        elif element.tag == SVG + "text":
+            self.labels.append(Label(element.text, x + float(element.get("x", 0)), y + float(element.get("y"))))
+        elif element.get("class") != "guide":
             self.untitled.append(element.tag)
 
-    def cell(self):
-        """The side of a grid's square for one ballot, times the heads."""
+    def grid_side(self):
         return float(self.root.find(".//%sg[@id='grid']/%srect" % (SVG, SVG)).get("width"))
 
 
@@ -60,7 +62,8 @@ def group_of(element, title, x, y):
     rows = element.findall(SVG + "path[@class='lost']")
     strokes = [stroke for row in rows for stroke in strokes_of(row.get("d"), x, y)]
     grids = [(x + float(use.get("x")), y + float(use.get("y"))) for use in used if use.get("href") == "#grid"]
-    return Group(title, x, y, marks, texts, strokes, grids)
+    across = [x + float(child.get("x")) for child in element if child.get("x") is not None]
+    return Group(title, x, y, marks, texts, strokes, grids, across)
 
 
 def strokes_of(way, x, y):

@@ -19,6 +19,7 @@ sys.path.insert(0, os.path.join(ROOT, "tools"))
 from bench_program import Trouble
 from drawn import Drawn
 from picture_drawing import picture_of
+from picture_marks import state_marks
 from run_file import Run, cut_to, file_of
 from tally import end, expect
 from tick_cause import cause_of
@@ -139,6 +140,17 @@ def test_bad_input():
         expect("%s -h" % tool, (status, b"tools/%s [--rounds A-B] FILE" % tool.encode() in usage, error), (0, True, ""))
 
 
+# ---- Marks, of states that no vote has too
+
+def test_marks():
+    for value, shape in ("0", "zero"), ("1", "one"), ("blank", "blank"):
+        for status, ring in ("undecided", []), ("decided", ["ring"]):
+            for decision, flag in ("none", []), ("0", ["flag0"]), ("1", ["flag1"]):
+                drawn = state_marks(State(7, value, status, decision))
+                expect("the marks of %s, %s, %s" % (value, status, decision),
+                       (re.findall('href="#([a-z0-9]+)"', drawn), drawn[-9:]), ([shape] + ring + flag, ">7</text>"))
+
+
 # ---- Sizes, of votes whose states are made up
 
 def made_up(n, rounds, lost, state):
@@ -164,5 +176,6 @@ if __name__ == "__main__":
     test_cuts()
     test_reports()
     test_bad_input()
+    test_marks()
     test_sizes()
     sys.exit(end("picture and trace, without the program"))
