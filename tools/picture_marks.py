@@ -15,19 +15,23 @@ text{font:12px sans-serif;fill:%(black)s}
 .long{font-size:9px}
 .flag{font-size:%(flag)dpx}
 .white{fill:#fff}
-.from0,.from1,.fromblank{fill:none;stroke-width:1.3}
+"""
+
+LINES_STYLE = """.from0,.from1,.fromblank{fill:none;stroke-width:1.3}
 .from0{stroke:#b87400}
 .from1{stroke:%(blue)s}
 .fromblank{stroke:#555;stroke-dasharray:3 3}
-.guide{stroke:#ddd}
+"""
+
+GRID_STYLE = """.guide{stroke:#ddd}
 .lost{fill:none;stroke:%(black)s;stroke-width:%(cell)dpx}
 """
 
 
 def style(places):
     phase, flag = (13, 11) if places.has_lines else (11, 9)
-    sizes = dict(phase=phase, flag=flag, cell=places.cell)
-    return "<style>%s</style>\n" % (STYLE % dict(sizes, black=BLACK, blue=BLUE))
+    rules = STYLE + (LINES_STYLE if places.has_lines else GRID_STYLE)
+    return "<style>%s</style>\n" % (rules % dict(black=BLACK, blue=BLUE, phase=phase, flag=flag, cell=places.cell))
 
 
 def definitions(places):

@@ -15,7 +15,7 @@ class Places:
         # Half a state's width, half its ring's, and from one head to the next.
         self.half, self.ring, self.pitch = (15, 20, 56) if self.has_lines else (10, 13, 34)
         # The side of a grid's square for one ballot.
-        self.cell = min(6, GRID_SIDE // n)
+        self.cell = min(8, GRID_SIDE // n)
         self.gap = 48 + 8 * n if self.has_lines else max(60, self.cell * n) + 30
         self.margin = 12
         self.names = 54

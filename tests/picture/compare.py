@@ -102,6 +102,10 @@ def test_commands():
     path = os.path.join(ROOT, "samples", DRAWN)
     status, drawn = called("picture", [path])
     tally.expect("%s as tools/picture draws it" % STORED, drawn == contents(os.path.join(ROOT, STORED)), True)
+    with open("/dev/full", "wb") as full:
+        ended = subprocess.run([os.path.join(ROOT, "tools", "picture"), path], stdout=full, stderr=subprocess.PIPE)
+    tally.expect("a full disk", (ended.returncode, ended.stderr),
+                 (2, b"picture: standard output: No space left on device\n"))
     status, some = called("picture", ["--rounds", "2-3", path])
     tally.expect("states in a picture of two rounds", (status, some.count(b"<title>head")), (0, 5 * 3))
     status, told = called("trace", ["--rounds", "2-3", path])
