@@ -32,8 +32,9 @@ def header(vote, places):
              "at the end: " + vote.last_line]
     if (vote.first, vote.last) != (0, vote.rounds):
         words.append("drawn: rounds %d to %d" % (vote.first + 1, vote.last))
-    return "".join('<text class="%s" x="%d" y="%d">%s</text>\n' % (
-        "" if index else "strong", places.margin, 24 + 20 * index, said) for index, said in enumerate(words))
+    kinds = [' class="strong"', "", ""]
+    return "".join('<text%s x="%d" y="%d">%s</text>\n' % (kinds[index], places.margin, 24 + 20 * index, said)
+                   for index, said in enumerate(words))
 
 
 # ---- Between two columns: a round

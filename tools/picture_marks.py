@@ -12,7 +12,7 @@ text{font:12px sans-serif;fill:%(black)s}
 .middle,.state,.long{text-anchor:middle}
 .strong{font-weight:bold}
 .state{font-size:%(phase)dpx}
-.long{font-size:9px}
+.long{font-size:%(long)dpx}
 .flag{font-size:%(flag)dpx}
 .white{fill:#fff}
 """
@@ -29,16 +29,17 @@ GRID_STYLE = """.guide{stroke:#ddd}
 
 
 def style(places):
-    phase, flag = (13, 11) if places.has_lines else (11, 9)
+    phase, small = (13, 11) if places.has_lines else (11, 9)
     rules = STYLE + (LINES_STYLE if places.has_lines else GRID_STYLE)
-    return "<style>%s</style>\n" % (rules % dict(black=BLACK, blue=BLUE, phase=phase, flag=flag, cell=places.cell))
+    words = dict(black=BLACK, blue=BLUE, phase=phase, long=small, flag=small, cell=places.cell)
+    return "<style>%s</style>\n" % (rules % words)
 
 
 def definitions(places):
     """Every mark once, around the middle of its state; a state uses them."""
     half, side = places.half, places.half - 2 # the square lies inside the ring
     outline = 'stroke="%s" stroke-width="1.5"' % BLACK
-    return "\n".join([
+    marks = [
         '<defs aria-hidden="true">',
         '<circle id="zero" r="%d" fill="%s" %s/>' % (half, ORANGE, outline),
         '<rect id="one" x="-%d" y="-%d" width="%d" height="%d" fill="%s" %s/>' % (
@@ -48,8 +49,10 @@ def definitions(places):
         flag(places, "0", ORANGE, ""),
         flag(places, "1", BLUE, " white"),
         '<path id="good" d="M-5 0l4 4l7-9" fill="none" stroke="%s" stroke-width="2.5"/>' % BLACK,
-        "" if places.has_lines else grid(places),
-        "</defs>\n"])
+    ]
+    if not places.has_lines:
+        marks.append(grid(places))
+    return "\n".join(marks + ["</defs>\n"])
 
 
 def flag(places, bit, colour, ink):
