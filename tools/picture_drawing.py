@@ -10,11 +10,12 @@ FIGURES_HEIGHT = 60
 
 
 def picture_of(vote):
+    """In the order of the vote, so that a reader of the screen tells it round by round."""
     places = Places(vote.heads, vote.first, vote.last)
-    columns = range(vote.first, vote.last + 1)
     parts = [front(vote, places), style(places), definitions(places), header(vote, places)]
-    parts += [round_drawn(vote, places, column) for column in columns[:-1]]
-    parts += [column_drawn(vote, places, column) for column in columns]
+    parts.append(column_drawn(vote, places, vote.first))
+    for column in range(vote.first, vote.last):
+        parts += [round_drawn(vote, places, column), column_drawn(vote, places, column + 1)]
     return "".join(parts + [legend(places, places.bottom + FIGURES_HEIGHT), "</svg>\n"])
 
 

@@ -5,6 +5,7 @@
 The last line says how many answers are as expected.
 """
 
+import glob
 import os
 import random
 import re
@@ -140,6 +141,16 @@ def test_bad_input():
         expect("%s -h" % tool, (status, b"tools/%s [--rounds A-B] FILE" % tool.encode() in usage, error), (0, True, ""))
 
 
+def test_refused_samples():
+    """The line of the bench, and what it means."""
+    for path in sorted(glob.glob(os.path.join(ROOT, "samples", "*-refused-*.run"))):
+        with open(path[:-4] + ".report") as report:
+            line = report.read().strip()
+        status, drawn, error = called("picture", [path])
+        words = re.fullmatch(re.escape(line) + ": [a-z][^\n]+\n", error)
+        expect(path, (status, drawn, words is not None), (1, b"", True))
+
+
 # ---- Marks, of states that no vote has too
 
 def test_marks():
@@ -176,6 +187,7 @@ if __name__ == "__main__":
     test_cuts()
     test_reports()
     test_bad_input()
+    test_refused_samples()
     test_marks()
     test_sizes()
     sys.exit(end("picture and trace, without the program"))
