@@ -31,6 +31,15 @@ def file_of(run):
     return data
 
 
+def cut_to(data, rounds):
+    """The file of the first rounds of a sound file: fewer rows and coins, and their counts corrected."""
+    n = int.from_bytes(data[:2], "big")
+    rows = 7 + n
+    coins = len(data) - n * int.from_bytes(data[rows - 2:rows], "big")
+    return (data[:rows - 2] + count_bytes(rounds) + data[rows:rows + 4 * n * rounds]
+            + count_bytes(n * rounds) + data[coins:coins + n * rounds])
+
+
 def run_in(data):
     """The run that a file holds."""
     run = Run()

@@ -73,7 +73,7 @@ pub fn is_good(run: &RunFile, round: &Round) -> bool {
 
 /// "One line a head, its last state; value prints 0, 1 or blank, status decided or undecided,
 /// decision 0, 1 or none."
-fn head_line(head: &[u8]) -> String {
+pub fn head_line(head: &[u8]) -> String {
     let phase = 256 * head[2] as u32 + head[3] as u32;
     let value = ["0", "1", "blank"][head[4] as usize];
     let status = ["undecided", "decided"][head[5] as usize];

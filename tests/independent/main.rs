@@ -5,6 +5,7 @@
 //!   compare files [-v] [-a] FILES SEED -- COMMAND.. the command that begins `bench`
 //!   compare write FOLDER FILES SEED                 writes these files, and their reports, there
 //!   compare report                                  prints the report of standard input's run file
+//!   compare states                                  prints its heads after each round
 //!
 //! -v prints what was met. The last line has the number of differences. Status 1 at the first
 //! difference, which is made as short as it can be and printed before; with -a all files are
@@ -35,6 +36,7 @@ mod runfile;
 mod shrink_call;
 mod shrink_file;
 mod shrink_script;
+mod states;
 mod tally;
 mod tell;
 mod votes;
@@ -49,19 +51,20 @@ fn main() {
     match words.first().map(String::as_str) {
         Some("files") => compare_files(words.split_off(1)),
         Some("write") if words.len() == 4 => write_files(&words[1..]),
-        Some("report") if words.len() == 1 => print_report(),
+        Some("report") if words.len() == 1 => print_of(bench::report),
+        Some("states") if words.len() == 1 => print_of(states::states),
         _ => compare_engines(words),
     }
 }
 
-/// What `bench` should print for the run file on standard input.
-fn print_report() {
+/// What is to be printed for the run file on standard input.
+fn print_of(text: impl Fn(&[u8]) -> String) {
     let mut file = Vec::new();
     if let Err(error) = std::io::stdin().read_to_end(&mut file) {
         eprintln!("standard input cannot be read: {error}");
         exit(2);
     }
-    print!("{}", bench::report(&file));
+    print!("{}", text(&file));
 }
 
 fn write_files(words: &[String]) {
