@@ -28,7 +28,7 @@ find_kit() {
 
 # Both rt and its caller write there.
 make_folder() {
-    mkdir -p "$work" 2>/dev/null && [ -w target ] && [ -w "$work" ] && : 2>/dev/null >"$work/log" ||
+    mkdir -p "$work" 2>/dev/null && [ -w target ] && [ -w "$work" ] && : 2>/dev/null >>"$work/log" ||
         fail "the folder $PWD/target cannot be written: what is proved and built goes there"
 }
 

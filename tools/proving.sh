@@ -33,24 +33,38 @@ announce() { # CRATE
         printf '%s: %s is proved and built first, which takes minutes\n' "$name" "$1" >&2
 }
 
-# A crate and all that it needs, lowest first, as crates.txt has them.
+# A crate and all that it needs, each as LEVEL:NAME, lowest first. Of the crates of one level none
+# needs another, and rt proves them side by side. In crates.txt the lower ones come first.
 crates_below() { # CRATE
-    sed 's/#.*//; s/:/ /' crates.txt | tac | awk -v crate="$1" '
-        BEGIN { wanted[crate] = 1 }
-        $1 in wanted { print $1; for (i = 2; i <= NF; i++) wanted[$i] = 1 }' | tac
+    sed 's/#.*//; s/:/ /' crates.txt | awk -v crate="$1" '
+        NF { line[++count] = $0 }
+        END {
+            wanted[crate] = 1
+            for (i = count; i > 0; i--) {
+                n = split(line[i], word)
+                for (k = 2; k <= n; k++) if (word[1] in wanted) wanted[word[k]] = 1
+            }
+            for (i = 1; i <= count; i++) {
+                n = split(line[i], word)
+                height[word[1]] = 0
+                for (k = 2; k <= n; k++)
+                    if (word[k] in height && height[word[k]] >= height[word[1]]) height[word[1]] = height[word[k]] + 1
+                if (word[1] in wanted) print height[word[1]] ":" word[1]
+            }
+        }' | sort -s -n
 }
 
 # Reads what rt says, and tells on standard error which crates are at hand and which remain: one line
 # that is rewritten on a terminal, else a line when that changes. Where nothing has to be proved rt
 # has ended before the first is told.
-show_progress() { # CRATE..
+show_progress() { # LEVEL:CRATE..
     local all=$# left=" $* " line part='' told='' began=$SECONDS
     while :; do
         IFS= read -r -t 1 line
         case $? in
         0)
             line=$part$line part=''
-            case $line in 'rt: '*' proved ('*) line=${line#rt: } left=${left/ ${line%% *} / } ;; esac
+            case $line in 'rt: '*' proved ('*) strike "$line" ;; esac
             ;;
         1) break ;;
         *) part+=$line ;; # a second has passed
@@ -60,13 +74,25 @@ show_progress() { # CRATE..
     [ -z "$told" ] || [ ! -t 2 ] || printf '\r\033[K' >&2
 }
 
-# Sets `told`. It sees the variables of show_progress.
+# Takes the crate that is proved off `left` of show_progress.
+strike() { # LINE
+    local words=${1#rt: } crate
+    for crate in $left; do
+        [ "${crate#*:}" != "${words%% *}" ] || left=${left/ $crate / }
+    done
+}
+
+# Sets `told` of show_progress, and sees its other variables.
 tell_progress() {
-    local words=($left) now
-    now="$name: proving ${words[0]}"
-    [ ${#words[@]} -eq 1 ] || now+=", then ${words[*]:1}"
+    local crate at='' then='' count=0 lowest now
+    lowest=${left# } lowest=${lowest%%:*}
+    for crate in $left; do
+        if [ "${crate%%:*}" = "$lowest" ]; then at+=" ${crate#*:}"; else then+=" ${crate#*:}"; fi
+        count=$((count + 1))
+    done
+    now="$name: proving$at${then:+, then$then}"
     if [ -t 2 ]; then
-        printf '\r%.78s\033[K' "$now ($((all - ${#words[@]})) of $all proved, $((SECONDS - began)) s)" >&2
+        printf '\r%.78s\033[K' "$now ($((all - count)) of $all proved, $((SECONDS - began)) s)" >&2
     elif [ "$now" != "$told" ]; then
         printf '%s\n' "$now" >&2
     fi
