@@ -1,31 +1,33 @@
 # Sourced by tools/kit.sh: has rt prove a crate, one caller at a time, and shows how far it is.
 
-# All that rt says goes to the log, which is shown only if it fails. The result is what rt makes.
+# Has rt make a result: all that it says goes to the log, which is shown only if it fails. Two at once
+# would prove the same twice and write over one another's files: so the second waits, and where the
+# first has made the result, that is all.
 prove() { # RESULT CRATE COMMAND..
-    local result=$1 crate=$2 turn status
-    shift 2
+    local result=$1 turn waited='' status=0
     exec {turn}<crates.txt # the lock, held by whoever proves; nothing is left behind
-    take_turn "$turn"
-    if is_fresh "$result" crates crates.txt; then
-        "$@" </dev/null >"$work/log" 2>&1
-        status=$?
-    else
-        announce "$crate"
-        "$@" </dev/null 2>&1 | tee "$work/log" | show_progress $(crates_below "$crate")
+    take_turn "$turn" || waited=yes
+    if ! is_fresh "$result" crates crates.txt; then
+        announce "$2"
+        "${@:3}" </dev/null 2>&1 | tee "$work/log" | show_progress $(crates_below "$2")
         status=${PIPESTATUS[0]}
+    elif [ -z "$waited" ]; then
+        "${@:3}" </dev/null >"$work/log" 2>&1
+        status=$?
     fi
     exec {turn}<&-
     [ "$status" -eq 0 ] && return
     cat "$work/log" >&2
-    fail "proving and building $crate failed: $*"
+    fail "proving and building $2 failed: ${*:3}"
 }
 
-# Two at once would prove the same twice, and write over one another's files.
+# Status 1 where it had to wait.
 take_turn() { # DESCRIPTOR
     command -v flock >/dev/null || return 0
     flock -n "$1" && return
     printf '%s: another command proves here; this one waits for it\n' "$name" >&2
     flock "$1"
+    return 1
 }
 
 announce() { # CRATE
