@@ -5,17 +5,18 @@
  * of 3, so that the program runs anywhere; firmware puts its own in their place and keeps the rest.
  * tests/c/run compiles this file, runs it and compares what it prints with firmware.out.
  */
+#include <stdio.h>
+
 #include "vote.h"
 
-int printf(const char *format, ...); /* of the C library; the engine prints nothing */
-
 enum { HEADS = 3, OWN = 0 };
-enum { DECISION = 6, NONE = 2 }; /* where the decision stands in a record, and its code for none */
 
 /* The vote stands in these 20 bytes, and nowhere else. */
 static uint8_t record[VOTE_RECORD_BYTES];
 
 static uint32_t one_tick(void);
+static uint32_t tick(const uint8_t *ballots, size_t length);
+static uint32_t tick_one_by_one(const uint8_t *ballots, size_t length);
 static void show(uint32_t number, size_t ballots);
 
 static uint32_t recovered_bit(void);
@@ -36,8 +37,8 @@ int main(void)
     while (radio_is_on()) {
         if (one_tick() == VOTE_NOT_SOUND)
             return 1; /* something else wrote on the record */
-        if (record[DECISION] != NONE && !taken) {
-            take_samples(record[DECISION]);
+        if (record[VOTE_AT_DECISION] != VOTE_NONE && !taken) {
+            take_samples(record[VOTE_AT_DECISION]);
             taken = 1;
         }
     }
@@ -58,18 +59,40 @@ static uint32_t one_tick(void)
     radio_send(list);
 
     used += radio_receive(list + used, sizeof list - used);
-    /* Refused: the record is as it was, this list is dropped, and the next brings other ballots.
-       Firmware that knows a damaged frame leaves that ballot out. */
-    number = vote_tick(record, sizeof record, list, used, random_bit());
-    show(number, used / VOTE_BALLOT_BYTES);
+    number = tick(list, used);
+    return number < VOTE_LENGTH ? number : tick_one_by_one(list, used);
+}
+
+static uint32_t tick(const uint8_t *ballots, size_t length)
+{
+    const uint32_t number = vote_tick(record, sizeof record, ballots, length, random_bit());
+    show(number, length / VOTE_BALLOT_BYTES);
+    return number;
+}
+
+/* From VOTE_LENGTH on, the numbers speak of the list, and the record is as it was. One bad ballot
+   would have the whole list refused, and a neighbour that goes on sending it would keep this head
+   from hearing anybody. So the ballots are handed over one at a time, the own one first, and only
+   those that are refused alone are dropped. */
+static uint32_t tick_one_by_one(const uint8_t *ballots, size_t length)
+{
+    uint32_t number = VOTE_ACCEPTED;
+    size_t at;
+
+    for (at = 0; at + VOTE_BALLOT_BYTES <= length; at += VOTE_BALLOT_BYTES) {
+        number = tick(ballots + at, VOTE_BALLOT_BYTES);
+        if (number == VOTE_NOT_SOUND)
+            return number;
+    }
     return number;
 }
 
 static void show(uint32_t number, size_t ballots)
 {
     printf("tick, ballots %u: number %u, phase %u value %u status %u decision %u\n",
-           (unsigned)ballots, (unsigned)number, record[2] * 256u + record[3], record[4] + 0u,
-           record[5] + 0u, record[DECISION] + 0u);
+           (unsigned)ballots, (unsigned)number,
+           record[VOTE_AT_PHASE] * 256u + record[VOTE_AT_PHASE + 1], record[VOTE_AT_VALUE] + 0u,
+           record[VOTE_AT_STATUS] + 0u, record[VOTE_AT_DECISION] + 0u);
 }
 
 /* ---- The drivers, told as a story */
@@ -81,8 +104,7 @@ static const struct {
 } air[] = {
     {0, {{0}}},                              /* all is lost */
     {1, {{1, 1, 0, 0, 1}}},                  /* head 1 at phase 1, value 1 */
-    {1, {{1, 3, 0, 0, 2}}},                  /* damaged: there is no value 3 */
-    {2, {{2, 0, 0, 0, 1}, {1, 1, 0, 0, 2}}}, /* head 2, late, and head 1 at phase 2, value 1 */
+    {2, {{2, 3, 0, 0, 1}, {1, 1, 0, 0, 2}}}, /* damaged: no value is 3; and head 1 at phase 2 */
     {1, {{2, 1, 1, 0, 3}}},                  /* head 2 has caught up: phase 3, value 1, decided */
 };
 

@@ -59,7 +59,10 @@
  *     not const, written.
  *   The two buffers of one call do not overlap.
  *   NULL is passed only with length 0.
- *   No other thread reads or writes the record during a call, or writes another buffer of the call.
+ *   Nothing else reads or writes the record during a call, or writes another buffer of the call: no
+ *     other thread and no interrupt handler. A handler that ticks a record while the main program
+ *     is inside a call with that record breaks this. Calls with different records may run at once,
+ *     in threads and in handlers: the engine has no memory of its own.
  *
  * Everything else may be anything: every length, every byte and every number has its answer.
  * Pointers need no alignment.
@@ -76,7 +79,36 @@ extern "C" {
 
 #define VOTE_RECORD_BYTES 20
 #define VOTE_BALLOT_BYTES 5
-#define VOTE_BALLOTS_BYTES_MOST 320 /* 64 ballots, the most that one tick takes */
+#define VOTE_HEADS_MOST 32
+#define VOTE_BALLOTS_MOST 64 /* in the list of one tick */
+#define VOTE_BALLOTS_BYTES_MOST (VOTE_BALLOTS_MOST * VOTE_BALLOT_BYTES)
+
+/* Where things stand in a record. A phase has two bytes and a set four, high byte first. */
+enum vote_record_place {
+    VOTE_AT_HEADS = 0,
+    VOTE_AT_OWN = 1,
+    VOTE_AT_PHASE = 2,
+    VOTE_AT_VALUE = 4,
+    VOTE_AT_STATUS = 5,
+    VOTE_AT_DECISION = 6,
+    VOTE_AT_HEARD_0 = 8,
+    VOTE_AT_HEARD_1 = 12,
+    VOTE_AT_HEARD_BLANK = 16
+};
+
+/* Where things stand in a ballot. */
+enum vote_ballot_place {
+    VOTE_BALLOT_AT_SENDER = 0,
+    VOTE_BALLOT_AT_VALUE = 1,
+    VOTE_BALLOT_AT_STATUS = 2,
+    VOTE_BALLOT_AT_PHASE = 3
+};
+
+/* The codes. A value and a decision of 0 or 1 is that bit. */
+#define VOTE_BLANK 2     /* of a value */
+#define VOTE_NONE 2      /* of a decision */
+#define VOTE_UNDECIDED 0 /* of a status */
+#define VOTE_DECIDED 1   /* of a status */
 
 /*
  * The numbers that the three functions give back, with document 01's words. Where several apply,

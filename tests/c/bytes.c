@@ -36,20 +36,20 @@ static void top_bit(void)
     uint8_t value;
     for (value = 0; value <= BLANK; value++) {
         const uint8_t ballot[] = {31, value, 0, 0, 2};
-        before[1] = 0;
+        before[VOTE_AT_OWN] = 0;
         memcpy(after, before, sizeof after);
-        after[8 + 4 * value] = 0x80;
+        after[VOTE_AT_HEARD_0 + 4 * value] = 0x80;
         lend(&record, before, sizeof before);
         lend(&list, ballot, sizeof ballot);
         expect_tick("sender 31 of 32", 0, 0, after);
-        before[1] = after[1] = 31;
-        before[4] = after[4] = value;
+        before[VOTE_AT_OWN] = after[VOTE_AT_OWN] = 31;
+        before[VOTE_AT_VALUE] = after[VOTE_AT_VALUE] = value;
         lend(&record, before, sizeof before);
         expect_tick("own number 31 of 32", 0, 0, after);
     }
     lend(&record, after, sizeof after); /* 31 is held under blank */
-    relend_byte(&record, 0, 31);
+    relend_byte(&record, VOTE_AT_HEADS, 31);
     expect_tick("own number 31 of 31", 0, 3, NULL);
-    relend_byte(&record, 1, 30);
+    relend_byte(&record, VOTE_AT_OWN, 30);
     expect_tick("head 31 held among 31", 0, 3, NULL);
 }

@@ -4,17 +4,15 @@
 #ifndef ENTRIES_H
 #define ENTRIES_H
 
-#include "vote.h"
+#include <stdio.h>
+#include <string.h>
 
-int dprintf(int file, const char *format, ...); /* unbuffered: a crash later loses no line */
-int memcmp(const void *a, const void *b, size_t length);
-void *memcpy(void *to, const void *from, size_t length);
-void *memset(void *to, int byte, size_t length);
+#include "vote.h"
 
 #define COUNT(table) (sizeof(table) / sizeof((table)[0]))
 
-enum { U = 0, D = 1 };        /* undecided, decided */
-enum { BLANK = 2, NONE = 2 }; /* value, decision */
+/* As document 01 writes them. */
+enum { U = VOTE_UNDECIDED, D = VOTE_DECIDED, BLANK = VOTE_BLANK, NONE = VOTE_NONE };
 
 /* As the document writes one: (sender, phase, value, u or d). */
 struct ballot {
@@ -30,21 +28,8 @@ struct head {
     uint32_t zeros, ones, blanks;
 };
 
-/* A tick, and what must come of it. At a refusal `after` is not looked at. */
-struct tick_case {
-    const char *what;
-    struct head before;
-    size_t count;
-    struct ballot ballots[8];
-    uint32_t coin, number;
-    struct head after;
-};
-
 /* ---- The tests */
 
-void sixteen_ticks(void);
-void accepted_ticks(void);
-void refused_ticks(void);
 void every_start(void);
 void refused_starts(void);
 void record_lengths(void);
@@ -54,9 +39,7 @@ void sixty_four_ballots(void);
 void null_with_length_zero(void);
 void numbers_are_not_cut(void);
 void bytes_as_documented(void);
-void every_ballot_code(void);
 void every_byte_of_a_record(void);
-void whole_votes(void);
 
 /* ---- expect.c: calls an entry with what is lent, and compares number and rooms */
 
@@ -65,16 +48,10 @@ void expect_start(const char *what, uint32_t n, uint32_t own, uint32_t proposal,
 /* `after` NULL, or any refusal: the record is as it came. */
 void expect_tick(const char *what, uint32_t coin, uint32_t number, const uint8_t *after);
 
-/* The list as it stands, turned round, and twice over: the answer is the same. */
-void expect_each_way(const struct tick_case *c);
-
 /* An empty list for a sound head that holds enough: it may step or be refused, but not by 3. */
 void expect_not_3(const char *what);
 
 void expect_ballot(const char *what, uint32_t number, const uint8_t *written);
-
-/* No call: what the record holds. */
-void expect_record(const char *what, const struct head *held);
 
 /* Prints the number of checks. The status of the program. */
 int finish(void);

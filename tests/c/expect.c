@@ -1,5 +1,6 @@
 /*
- * A call, what must come of it, and the words of a failure.
+ * A call, what must come of it, and the words of a failure. They go out unbuffered: a crash later
+ * loses no line.
  */
 #include "entries.h"
 
@@ -46,25 +47,6 @@ void expect_ballot(const char *what, uint32_t number, const uint8_t *written)
     expect_room(&call, &buffer, number == 0 ? written : zeros);
 }
 
-void expect_each_way(const struct tick_case *c)
-{
-    struct ballot turned[COUNT(c->ballots)], twice[2 * COUNT(c->ballots)];
-    size_t i;
-    for (i = 0; i < c->count; i++) {
-        turned[i] = c->ballots[c->count - 1 - i];
-        twice[i] = twice[c->count + i] = c->ballots[i];
-    }
-    lend_head(&c->before);
-    lend_ballots(c->ballots, c->count);
-    expect_tick(c->what, c->coin, c->number, image(&c->after));
-    lend_head(&c->before);
-    lend_ballots(turned, c->count);
-    expect_tick(c->what, c->coin, c->number, image(&c->after));
-    lend_head(&c->before);
-    lend_ballots(twice, 2 * c->count);
-    expect_tick(c->what, c->coin, c->number, image(&c->after));
-}
-
 void expect_not_3(const char *what)
 {
     const struct call call = {what, "vote_tick, coin:", &record, &list, {0}, 1};
@@ -74,12 +56,6 @@ void expect_not_3(const char *what)
         dprintf(1, "    gave 3, expected another number\n");
     expect_room(&call, &record, given == 0 ? record.at : NULL);
     expect_room(&call, &list, NULL);
-}
-
-void expect_record(const char *what, const struct head *held)
-{
-    const struct call call = {what, "vote_start", &record, NULL, {0}, 0};
-    expect_room(&call, &record, image(held));
 }
 
 int finish(void)

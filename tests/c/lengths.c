@@ -75,19 +75,19 @@ void sixty_four_ballots(void)
 {
     const struct head before = {32, 5, 1, 0, U, NONE, 0, 0, 0};
     const struct head after = {32, 5, 3, 1, D, 1, 0, 0, 0};
-    struct ballot ballots[64];
+    struct ballot ballots[VOTE_BALLOTS_MOST];
     uint8_t s;
-    for (s = 0; s < 32; s++) {
+    for (s = 0; s < VOTE_HEADS_MOST; s++) {
         const struct ballot at_1 = {s, 1, 0, U}, at_2 = {s, 2, 1, U};
         ballots[s] = at_1;
-        ballots[32 + s] = s == 5 ? at_1 : at_2; /* the head itself is not ahead */
+        ballots[VOTE_HEADS_MOST + s] = s == 5 ? at_1 : at_2; /* the head itself is not ahead */
     }
     lend_head(&before);
-    lend_ballots(ballots, 64);
+    lend_ballots(ballots, VOTE_BALLOTS_MOST);
     expect_tick("64 ballots of two phases", 0, 0, image(&after));
-    ballots[63].value = 0;
+    ballots[VOTE_BALLOTS_MOST - 1].value = 0;
     lend_head(&before);
-    lend_ballots(ballots, 64);
+    lend_ballots(ballots, VOTE_BALLOTS_MOST);
     expect_tick("the last of 64 ballots with 0 at an even phase", 0, 9, NULL);
 }
 

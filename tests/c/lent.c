@@ -3,6 +3,9 @@
  */
 #include "entries.h"
 
+static void write_phase(uint8_t *to, uint16_t phase);
+static void write_set(uint8_t *to, uint32_t set);
+
 struct lent record = {.name = "record"};
 struct lent list = {.name = "ballots"};
 struct lent buffer = {.name = "buffer"};
@@ -50,18 +53,36 @@ void lend_ballots(const struct ballot *ballots, size_t count)
 const uint8_t *image(const struct head *h)
 {
     static uint8_t bytes[VOTE_RECORD_BYTES];
-    const uint32_t sets[] = {h->zeros, h->ones, h->blanks};
-    const uint8_t front[] = {h->n,     h->own,    h->phase / 256, h->phase % 256,
-                             h->value, h->status, h->decision,    0};
-    size_t i;
-    memcpy(bytes, front, sizeof front);
-    for (i = 0; i < 12; i++)
-        bytes[8 + i] = (uint8_t)(sets[i / 4] >> (24 - 8 * (i % 4)));
+    memset(bytes, 0, sizeof bytes);
+    bytes[VOTE_AT_HEADS] = h->n;
+    bytes[VOTE_AT_OWN] = h->own;
+    write_phase(bytes + VOTE_AT_PHASE, h->phase);
+    bytes[VOTE_AT_VALUE] = h->value;
+    bytes[VOTE_AT_STATUS] = h->status;
+    bytes[VOTE_AT_DECISION] = h->decision;
+    write_set(bytes + VOTE_AT_HEARD_0, h->zeros);
+    write_set(bytes + VOTE_AT_HEARD_1, h->ones);
+    write_set(bytes + VOTE_AT_HEARD_BLANK, h->blanks);
     return bytes;
 }
 
 void write_ballot(uint8_t *to, const struct ballot *b)
 {
-    const uint8_t bytes[] = {b->sender, b->value, b->status, b->phase / 256, b->phase % 256};
-    memcpy(to, bytes, sizeof bytes);
+    to[VOTE_BALLOT_AT_SENDER] = b->sender;
+    to[VOTE_BALLOT_AT_VALUE] = b->value;
+    to[VOTE_BALLOT_AT_STATUS] = b->status;
+    write_phase(to + VOTE_BALLOT_AT_PHASE, b->phase);
+}
+
+static void write_phase(uint8_t *to, uint16_t phase)
+{
+    to[0] = phase / 256;
+    to[1] = phase % 256;
+}
+
+static void write_set(uint8_t *to, uint32_t set)
+{
+    size_t i;
+    for (i = 0; i < 4; i++)
+        to[i] = (uint8_t)(set >> (24 - 8 * i));
 }

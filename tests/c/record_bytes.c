@@ -32,8 +32,10 @@ void every_byte_of_a_record(void)
 /* An empty list leaves a sound head as it is, unless it holds enough for a step. */
 static void expect_soundness(const uint8_t *bytes)
 {
-    const uint8_t ballot[] = {bytes[1], bytes[4], bytes[5], bytes[2], bytes[3]};
-    const uint32_t heard = set_at(bytes + 8) | set_at(bytes + 12) | set_at(bytes + 16);
+    const uint8_t ballot[] = {bytes[VOTE_AT_OWN], bytes[VOTE_AT_VALUE], bytes[VOTE_AT_STATUS],
+                              bytes[VOTE_AT_PHASE], bytes[VOTE_AT_PHASE + 1]};
+    const uint32_t heard = set_at(bytes + VOTE_AT_HEARD_0) | set_at(bytes + VOTE_AT_HEARD_1)
+                         | set_at(bytes + VOTE_AT_HEARD_BLANK);
     const int is_sound = sound(bytes);
     lend(&record, bytes, VOTE_RECORD_BYTES);
     lend(&buffer, NULL, VOTE_BALLOT_BYTES);
@@ -41,7 +43,7 @@ static void expect_soundness(const uint8_t *bytes)
     lend_ballots(NULL, 0);
     if (!is_sound) {
         expect_tick("one byte of a record", 0, 3, NULL);
-    } else if (2 * size_of_set(heard) <= bytes[0]) {
+    } else if (2 * size_of_set(heard) <= bytes[VOTE_AT_HEADS]) {
         expect_tick("one byte of a record", 0, 0, NULL);
     } else {
         expect_not_3("one byte of a record");

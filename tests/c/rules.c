@@ -6,13 +6,16 @@
 /* Document 01: "A head is sound when", clause by clause, after the codes of the bytes. */
 int sound(const uint8_t *bytes)
 {
-    const uint32_t n = bytes[0], own = bytes[1], phase = bytes[2] * 256u + bytes[3];
-    const uint32_t value = bytes[4], status = bytes[5], decision = bytes[6];
-    const uint32_t sets[] = {set_at(bytes + 8), set_at(bytes + 12), set_at(bytes + 16)};
+    const uint32_t n = bytes[VOTE_AT_HEADS], own = bytes[VOTE_AT_OWN];
+    const uint32_t phase = bytes[VOTE_AT_PHASE] * 256u + bytes[VOTE_AT_PHASE + 1];
+    const uint32_t value = bytes[VOTE_AT_VALUE], status = bytes[VOTE_AT_STATUS];
+    const uint32_t decision = bytes[VOTE_AT_DECISION];
+    const uint32_t sets[] = {set_at(bytes + VOTE_AT_HEARD_0), set_at(bytes + VOTE_AT_HEARD_1),
+                             set_at(bytes + VOTE_AT_HEARD_BLANK)};
     const uint32_t heard = sets[0] | sets[1] | sets[2];
-    if (value > 2 || status > 1 || decision > 2 || bytes[7] != 0)
+    if (value > BLANK || status > D || decision > NONE || bytes[7] != 0)
         return 0;
-    return n >= 2 && n <= 32
+    return n >= 2 && n <= VOTE_HEADS_MOST
         && own < n
         && obeys_rules(phase, value, status)
         && (status == U || (decision != NONE && decision == value))
@@ -27,7 +30,7 @@ int sound(const uint8_t *bytes)
 /* The ballot rules by phase, without the sender's. */
 int obeys_rules(uint32_t phase, uint32_t value, uint32_t status)
 {
-    if (phase == 0 || value > 2 || status > 1)
+    if (phase == 0 || value > BLANK || status > D)
         return 0;
     if (phase == 1)
         return value != BLANK && status == U;

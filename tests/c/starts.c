@@ -6,7 +6,7 @@
 void every_start(void)
 {
     uint32_t n, own, proposal;
-    for (n = 2; n <= 32; n++)
+    for (n = 2; n <= VOTE_HEADS_MOST; n++)
         for (own = 0; own < n; own++)
             for (proposal = 0; proposal <= 1; proposal++) {
                 lend(&record, NULL, VOTE_RECORD_BYTES);

@@ -164,22 +164,47 @@ def test_samples():
 
 # ---- The command
 
-def called(word, data):
+RUNFILE = os.path.join(TOOLS, "runfile")
+
+
+def called(words, data=b"", **standard):
     """Status, standard output and standard error."""
-    command = [sys.executable, os.path.join(TOOLS, "runfile"), word]
-    ended = subprocess.run(command, input=data, capture_output=True)
-    return ended.returncode, ended.stdout, ended.stderr.decode()
+    streams = {"stdin": subprocess.PIPE, "stdout": subprocess.PIPE, "stderr": subprocess.PIPE, **standard}
+    with subprocess.Popen([RUNFILE] + words, **streams) as command:
+        out, said = command.communicate(data if streams["stdin"] == subprocess.PIPE else None)
+    return command.returncode, out, said.decode()
 
 
 def test_command():
     text = b"propose 1 1 0\nneed 2\nround 2 times\n"
-    expect("write", called("write", text), (0, PRINTED, ""))
-    expect("read", called("read", PRINTED), (0, text, ""))
-    expect("write, a mistake", called("write", b"need 2"),
+    first = os.path.join(SAMPLES, "01-printed-case")
+    expect("write", called(["write"], text), (0, PRINTED, ""))
+    expect("read", called(["read"], PRINTED), (0, text, ""))
+    expect("write TEXT", called(["write", first + ".txt"]), (0, PRINTED, ""))
+    expect("read FILE", called(["read", first + ".run"]), (0, text, ""))
+    expect("write, a mistake", called(["write"], b"need 2"),
            (1, b"", "runfile: line 1: the proposals come first\n"))
-    expect("read, a refusal", called("read", PRINTED[:-1]),
+    expect("read, a refusal", called(["read"], PRINTED[:-1]),
            (1, b"", "refused 12 at 41: the file ends inside the coins\n"))
-    expect("another word", called("print", b"")[0], 2)
+    status, out, said = called(["--help"])
+    expect("--help", (status, b"tools/runfile read FILE" in out, said), (0, True, ""))
+    for words in [], ["print"], ["read", "a", "b"]:
+        status, out, said = called(words)
+        expect("usage, %s" % words, (status, out, said.startswith("usage: ")), (2, b"", True))
+
+
+def test_trouble():
+    """One line each, and status 2."""
+    expect("no such file", called(["read", SAMPLES + "/none"]),
+           (2, b"", "runfile: %s/none: No such file or directory\n" % SAMPLES))
+    expect("a folder", called(["read", SAMPLES]), (2, b"", "runfile: %s: Is a directory\n" % SAMPLES))
+    folder = os.open(SAMPLES, os.O_RDONLY)
+    expect("a folder as standard input", called(["read"], stdin=folder),
+           (2, b"", "runfile: standard input: Is a directory\n"))
+    os.close(folder)
+    with open("/dev/full", "wb") as full:
+        expect("a full disk", called(["read"], PRINTED, stdout=full),
+               (2, None, "runfile: standard output: No space left on device\n"))
 
 
 def main(folders):
@@ -188,6 +213,7 @@ def main(folders):
     test_refusals()
     test_samples()
     test_command()
+    test_trouble()
     for folder in folders:
         for path in sorted(glob.glob(os.path.join(folder, "*.run"))):
             test_report(path)

@@ -40,6 +40,9 @@ CAN_GIVE = {
 
 
 def main(arguments):
+    if arguments[:1] in (["-h"], ["--help"]):
+        print(__doc__)
+        return 0
     check = arguments[:1] == ["--check"]
     if len(arguments) != 1 + check:
         print(__doc__)
