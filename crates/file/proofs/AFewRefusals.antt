@@ -19,20 +19,20 @@ pub record Answer : Type 0 where
   pub number : ℕ
   pub place : ℕ
 
-pub record Case : Type 0 where
+pub record Checked : Type 0 where
   pub gives : Answer
   pub said : Answer
 
-abbrev answers : Outcome → ℕ → ℕ → Case
+abbrev answers : Outcome → ℕ → ℕ → Checked
 answers o number place =
     record { gives = record { number = o .number; place = o .place }; said = record { number = number; place = place } }
 
 -- a file in a lent table of so many heads, with what document 01 says of it
-abbrev lent : ℕ → List ℕ → ℕ → ℕ → Case
+abbrev lent : ℕ → List ℕ → ℕ → ℕ → Checked
 lent room file = answers (outcomeOf file (replicate room zeroHead))
 
 -- in the program's table
-abbrev gives : List ℕ → ℕ → ℕ → Case
+abbrev gives : List ℕ → ℕ → ℕ → Checked
 gives file = answers (benchedOf file .outcome)
 
 -- ---- sound sections for three heads
@@ -54,7 +54,7 @@ losses = need ++ (0 ∷ 1 ∷ 0 ∷ 0 ∷ 0 ∷ 7 ∷ 0 ∷ 0 ∷ 0 ∷ 7 ∷ 0 
 abbrev coins : List ℕ
 coins = losses ++ (0 ∷ 3 ∷ 1 ∷ 0 ∷ 1 ∷ [])
 
-unfoldable pub files : List Case
+unfoldable pub files : List Checked
 files =
     -- ---- section 1: "An empty file: 12 at 0."
     gives [] 12 0
@@ -117,7 +117,7 @@ files =
     ∷ gives ((0 ∷ 32 ∷ []) ++ replicate 32 1 ++ (0 ∷ 1 ∷ 32 ∷ 0 ∷ 1 ∷ []) ++ replicate 128 255 ++ (0 ∷ 32 ∷ []) ++ replicate 32 1) 0 0
     ∷ []
 
-pub each-file-has-its-number-and-place : map (λ (c : Case). c .gives) files ≡ map (λ (c : Case). c .said) files
+pub each-file-has-its-number-and-place : map (λ (c : Checked). c .gives) files ≡ map (λ (c : Checked). c .said) files
 unfolding files reporting
 each-file-has-its-number-and-place = refl
 

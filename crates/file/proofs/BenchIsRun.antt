@@ -19,12 +19,12 @@ use Rattle.rules.specs.Round.{received, ticksOfRound}
 use Rattle.rules.proofs.Rounds.{round-is-run, untouched, ticked-once}
 use Rattle.rules.proofs.Phases.{no-early-refusal}
 use Rattle.file.specs.declared.Plan.{Plan}
-use Rattle.file.specs.Rules.{KeepsEveryRule}
 use Rattle.file.specs.Table.{headOf, startIn, startsIn, rowsIn, coinsIn, receivedIn, tickedIn, roundIn, roundsIn}
 use Rattle.file.specs.Vote.{voteIn, channelIn, eventsIn}
+use Rattle.file.proofs.Plans.{RuleByRule}
 use Rattle.file.proofs.Placing.{placed-length, placed-at, rounds-length}
 
-module _ (file : List ℕ) (plan : Plan) (table : List Head) (accepted : KeepsEveryRule file (length table) plan) where
+module _ (file : List ℕ) (plan : Plan) (table : List Head) (accepted : RuleByRule file (length table) plan) where
   abbrev starts : List Head
   starts = startsIn file (plan .n) table
 
@@ -50,7 +50,7 @@ module _ (file : List ℕ) (plan : Plan) (table : List Head) (accepted : KeepsEv
       room = omega (arith, accepted .enough, rounds-length file plan r starts, placed-length (plan .n) (startIn file (plan .n)) table)
 
   -- a coin of a round is a coin of the file
-  coin-bit : (r : ℕ) → r < plan .rounds → (s : ℕ) → s < plan .n → getD (coinsIn file plan r) s 0 < 2
+  pub coin-bit : (r : ℕ) → r < plan .rounds → (s : ℕ) → s < plan .n → getD (coinsIn file plan r) s 0 < 2
   coin-bit r early s h =
       let at : getD (coinsIn file plan r) s 0 ≡ getD file (plan .coins + r * plan .n + s) 0 = getD-take (plan .n) (drop (plan .coins + r * plan .n) file) s 0 h ∙ getD-drop (plan .coins + r * plan .n) file s 0 in
       let place : plan .coins + r * plan .n + s ≡ plan .coins + (r * plan .n + s) = omega arith in
@@ -68,7 +68,7 @@ module _ (file : List ℕ) (plan : Plan) (table : List Head) (accepted : KeepsEv
   round-length r zero = omega arith
   round-length r (suc k) = let i = round-length r k in omega (arith, i)
 
-  events-length : (r : ℕ) → length (eventsIn file plan r) ≡ r * plan .n
+  pub events-length : (r : ℕ) → length (eventsIn file plan r) ≡ r * plan .n
   events-length zero = omega arith
   events-length (suc r) = let i = events-length r in omega (arith, i, round-length r (plan .n), suc-mul r (plan .n))
 

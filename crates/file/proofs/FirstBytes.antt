@@ -19,9 +19,9 @@ use Rattle.file.specs.declared.Section.the-variants.{Body, Refused}
 use Rattle.file.specs.declared.Plan.{Plan}
 use Rattle.file.specs.declared.Outcome.{Outcome}
 use Rattle.file.specs.Section.{countAt, bodyOf, counted, checked, notBit, notNeed, notRow, proposalsOf, neededOf, lossesOf, coinsOf}
-use Rattle.file.specs.Plan.{refusedPlan, taken, closed, afterLosses, afterNeeded, afterProposals, planOf}
+use Rattle.file.specs.Plan.{refusedPlan, taken, closedOf, afterLosses, afterNeeded, afterProposals, planOf}
 use Rattle.file.specs.Table.{tableAfter}
-use Rattle.file.specs.Figures.{boundOf, outcomeIn, outcomeOf}
+use Rattle.file.specs.Figures.{boundOf, outcomeOf}
 use Rattle.file.specs.Benched.{emptyTable}
 use Rattle.file.specs.Report.{joined, linesOf, reportOf}
 use Rattle.file.proofs.Sections.{ordered, in-order, proposals-body, needed-body, losses-body, coins-body}
@@ -32,7 +32,7 @@ use Rattle.file.proofs.Placing.{after-nothing}
 
 pub refused-outcome : (file : List ℕ) (table : List Head) (number place : ℕ) → planOf file (length table) ≡ refusedPlan number place
     → outcomeOf file table ≡ record { number = number; place = place; n = 0; needed = 0; bound = boundOf 0 0; rounds = 0; good = 0; decided = 0 }
-unfolding outcomeOf outcomeIn count
+unfolding outcomeOf count
 refused-outcome file table number place e = rw e refl
 
 pub refused-table : (file : List ℕ) (table : List Head) (number place : ℕ) → planOf file (length table) ≡ refusedPlan number place → tableAfter file table ≡ table
@@ -88,7 +88,7 @@ module _ (file : List ℕ) (m : ℕ) (enough : 41002 ≤ m) (longer : m < length
   -- ---- the sections, the last first
 
   losses-next : (room at n k rounds rows : ℕ) → at ≤ 32807 → n ≤ 32 → rounds ≤ 256 → afterLosses front room at n k rounds rows ≡ afterLosses file room at n k rounds rows
-  unfolding afterLosses coinsOf closed
+  unfolding afterLosses coinsOf closedOf
   losses-next room at n k rounds rows low few short =
       ap (λ (section : Section). taken section next) section ∙ taken-same (coinsOf file at (rounds * n)) _ _ ends
     where
@@ -102,14 +102,14 @@ module _ (file : List ℕ) (m : ℕ) (enough : 41002 ≤ m) (longer : m < length
       made start = record { number = 0; place = 0; n = n; needed = k; rounds = rounds; losses = rows; coins = start }
 
       next : ℕ → ℕ → Plan
-      next start size = closed (length front) room (start + size) (made start)
+      next start size = closedOf (length front) room (start + size) (made start)
 
       section : coinsOf front at (rounds * n) ≡ coinsOf file at (rounds * n)
       section =
           ap (λ (c : ℕ). checked front 1 notBit (counted front at (not (eqb c (rounds * n))) (rounds * n))) (count-same at (omega (arith, enough, low)))
           ∙ section-same at _ (rounds * n) 1 notBit (omega (arith, enough, low)) (λ e. omega (arith, enough, low, products))
 
-      ends : (start size : ℕ) → coinsOf file at (rounds * n) ≡ Body start size → next start size ≡ closed (length file) room (start + size) (made start)
+      ends : (start size : ℕ) → coinsOf file at (rounds * n) ≡ Body start size → next start size ≡ closedOf (length file) room (start + size) (made start)
       ends start size e =
           let C = coins-body file at (rounds * n) start size e in
           let end : start + size ≤ 41001 = omega (arith, C .starts, C .sized, low, products) in

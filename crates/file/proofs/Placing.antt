@@ -1,15 +1,15 @@
 -- The table with heads placed in it: who stands where, and who is left alone.
-use Prim.Native.Nat.{ℕ, zero, suc, _≤_, _<_}
-use mathlib.Core.Path.{_≡_, refl, _∙_}
+use Prim.Native.Nat.{ℕ, zero, suc, _+_, _≤_, _<_}
+use mathlib.Core.Path.{_≡_, refl, sym, _∙_}
 use mathlib.Core.List.{List}
 use native.Mathlib.Decide.{ℕ-discrete}
 use native.Mathlib.Omega.{arith}
-use lib.ListN.{length, set, length-set}
-use lib.Seq.{getD-set-same, getD-set-other}
+use lib.ListN.{length, set, drop, length-set, length-drop}
+use lib.Seq.{getD-set-same, getD-set-other, getD-drop, ext-getD}
 use Rattle.rules.specs.declared.Head.{Head}
 use Rattle.rules.specs.Head.{zeroHead}
 use Rattle.file.specs.declared.Plan.{Plan}
-use Rattle.file.specs.Plan.{planOf}
+use Rattle.file.specs.Plan.{planFor}
 use Rattle.file.specs.Table.{headOf, placed, rowsIn, coinsIn, tickedIn, roundIn, roundsIn, startIn, startsIn, tableAfter}
 
 pub placed-length : (k : ℕ) (f : ℕ → Head) (table : List Head) → length (placed k f table) ≡ length table
@@ -52,17 +52,32 @@ module _ (file : List ℕ) (plan : Plan) where
 pub after-length : (file : List ℕ) (table : List Head) → length (tableAfter file table) ≡ length table
 unfolding tableAfter
 after-length file table =
-    let plan = planOf file (length table) in
+    let plan = planFor file table in
     rounds-length file plan (plan .rounds) (startsIn file (plan .n) table) ∙ placed-length (plan .n) (startIn file (plan .n)) table
 
 -- "the others are untouched"
-pub after-rest : (file : List ℕ) (table : List Head) (s : ℕ) → planOf file (length table) .n ≤ s → headOf (tableAfter file table) s ≡ headOf table s
+pub after-rest : (file : List ℕ) (table : List Head) (s : ℕ) → planFor file table .n ≤ s → headOf (tableAfter file table) s ≡ headOf table s
 unfolding tableAfter
 after-rest file table s h =
-    let plan = planOf file (length table) in
+    let plan = planFor file table in
     rounds-rest file plan (plan .rounds) (startsIn file (plan .n) table) s h ∙ placed-rest (plan .n) (startIn file (plan .n)) table s h
 
+pub after-drop : (file : List ℕ) (table : List Head) → drop (planFor file table .n) (tableAfter file table) ≡ drop (planFor file table .n) table
+after-drop file table = ext-getD zeroHead (drop n (tableAfter file table)) (drop n table) long each
+  where
+    n : ℕ
+    n = planFor file table .n
+
+    long : length (drop n (tableAfter file table)) ≡ length (drop n table)
+    long = omega (arith, length-drop n (tableAfter file table), length-drop n table, after-length file table)
+
+    each : (i : ℕ) → i < length (drop n (tableAfter file table)) → headOf (drop n (tableAfter file table)) i ≡ headOf (drop n table) i
+    each i h =
+        getD-drop n (tableAfter file table) i zeroHead
+        ∙ after-rest file table (n + i) (omega arith)
+        ∙ sym (getD-drop n table i zeroHead)
+
 -- no heads and no rounds: nothing changes
-pub after-nothing : (file : List ℕ) (table : List Head) → planOf file (length table) .n ≡ 0 → planOf file (length table) .rounds ≡ 0 → tableAfter file table ≡ table
+pub after-nothing : (file : List ℕ) (table : List Head) → planFor file table .n ≡ 0 → planFor file table .rounds ≡ 0 → tableAfter file table ≡ table
 unfolding tableAfter roundsIn placed
 after-nothing file table none rounds = rw (rounds, none) refl

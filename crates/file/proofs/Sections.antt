@@ -4,6 +4,7 @@ use Prim.Native.Nat.{ℕ, _+_, _*_, _/_, _≤_, _<_}
 use mathlib.Core.Path.{_≡_, refl, sym, ap, subst, _∙_}
 use mathlib.Core.List.{List}
 use mathlib.Core.Bool.{Bool, true, false, cond, _&&_, not}
+use native.Mathlib.Nat.{mul-le-mul-right}
 use native.Mathlib.Omega.{arith}
 use lib.ListN.{length, getD, drop, length-take, length-drop}
 use lib.Dec.{ltb, leb, eqb}
@@ -19,7 +20,7 @@ use Rattle.rules.proofs.Sets.{means-within}
 use Rattle.file.specs.declared.Section.{Section}
 use Rattle.file.specs.declared.Section.the-variants.{Body, Refused}
 use Rattle.file.specs.Section.{countAt, bodyOf, counted, firstBroken, unlessBroken, checked, notBit, notNeed, notRow, proposalsOf, neededOf, lossesOf, coinsOf}
-use Rattle.file.specs.Refusal.{At, FirstThatBreaks, Bit, Need, LossRow}
+use Rattle.file.specs.Refusal.{At, FirstThatBreaks, BitAt, Need, LossRow}
 
 -- where a body starts, and how long it is; a refusal is told apart
 abbrev startOr : ℕ → Section → ℕ
@@ -43,7 +44,7 @@ module _ (file : List ℕ) (start size : ℕ) where
   body-at i h = getD-take size (drop start file) i 0 h ∙ getD-drop start file i 0
 
   -- and so is a row
-  four-bytes-at : (i : ℕ) → i + 3 < size → fourBytesAt (bodyOf file (Body start size)) i ≡ fourBytesAt file (start + i)
+  pub four-bytes-at : (i : ℕ) → i + 3 < size → fourBytesAt (bodyOf file (Body start size)) i ≡ fourBytesAt file (start + i)
   four-bytes-at i h =
       rw (body-at i (omega arith), body-at (i + 1) (omega arith), body-at (i + 2) (omega arith), body-at (i + 3) (omega arith))
       (rw (next 1, next 2, next 3) refl)
@@ -163,6 +164,12 @@ module _ {file : List ℕ} {count : ℕ} {breaks : Bool} {Rule : Type 0} {size p
           let e : broken ≡ x .0 = first-at (length body / width) test-at (x .0) whole broke (omega (arith, x .1, all inside)) in
           (lt-ltb broken (length body / width) (omega (arith, e, x .1, all inside)), x .2 ∙ ap (λ (k : ℕ). count + 2 + k * width) (sym e))
 
+  -- inside the file
+  pub first-near : Inside → ltb broken (length body / width) ≡ true → count + 2 + broken * width ≤ length file
+  first-near inside e =
+      let few : broken ≤ pieces = omega (arith, ltb-true broken (length body / width) e, all inside) in
+      omega (arith, ltb-false (length file) (count + 2 + size) inside, meant .sized, mul-le-mul-right width few)
+
   pub section-body : (start long : ℕ) → checked file width test (counted file count breaks size) ≡ Body start long → Kept file count Rule size pieces width Keeps start long
   unfolding checked unlessBroken
   section-body start long e = go (ltb (length file) (count + 2)) breaks (ltb (length file) (count + 2 + size)) (ltb broken (length body / width)) refl refl refl (sym (in-order file count breaks size width test) ∙ e)
@@ -182,16 +189,16 @@ means-bit x = means-as {P = 1 < x → ⊥} (λ f. omega (arith, f)) (λ l q. ome
 
 module _ (file : List ℕ) where
   -- a section of bits
-  bits-meant : (count size : ℕ) {breaks : Bool} {Rule : Type 0} → Means (not breaks) Rule → Meant file count breaks Rule size size 1 notBit (Bit file)
+  bits-meant : (count size : ℕ) {breaks : Bool} {Rule : Type 0} → Means (not breaks) Rule → Meant file count breaks Rule size size 1 notBit (BitAt file)
   bits-meant count size ruled =
       record {
         ruled = ruled;
         sized = omega arith;
         whole = omega arith;
-        piece = λ i h. subst (λ (x : ℕ). Means (not (ltb 1 x)) (Bit file (count + 2 + i * 1))) (sym (body-at file (count + 2) size (i * 1) (omega (arith, h)))) (means-bit (getD file (count + 2 + i * 1) 0));
+        piece = λ i h. subst (λ (x : ℕ). Means (not (ltb 1 x)) (BitAt file (count + 2 + i * 1))) (sym (body-at file (count + 2) size (i * 1) (omega (arith, h)))) (means-bit (getD file (count + 2 + i * 1) 0));
       }
 
-  pub proposals-meant : Meant file 0 (notHeads (countAt file 0)) (Heads (countAt file 0)) (countAt file 0) (countAt file 0) 1 notBit (Bit file)
+  pub proposals-meant : Meant file 0 (notHeads (countAt file 0)) (Heads (countAt file 0)) (countAt file 0) (countAt file 0) 1 notBit (BitAt file)
   unfolding notHeads
   proposals-meant = bits-meant 0 (countAt file 0) (means-twice (means-and (means-le 2 (countAt file 0)) (means-le (countAt file 0) 32)))
 
@@ -218,7 +225,7 @@ module _ (file : List ℕ) where
             (means-twice (means-within n (fourBytesAt file (count + 2 + i * 4))));
       }
 
-  pub coins-meant : (count rows : ℕ) → Meant file count (not (eqb (countAt file count) rows)) (countAt file count ≡ rows) rows rows 1 notBit (Bit file)
+  pub coins-meant : (count rows : ℕ) → Meant file count (not (eqb (countAt file count) rows)) (countAt file count ≡ rows) rows rows 1 notBit (BitAt file)
   coins-meant count rows = bits-meant count rows (means-twice (means-eq (countAt file count) rows))
 
   -- ---- where their bodies stand, for the code
@@ -248,6 +255,6 @@ module _ (file : List ℕ) where
   unfolding lossesOf
   losses-body at n start size e = let K = section-body (losses-meant at n) start size e in record { starts = K .starts; rounds = K .rule; sized = K .sized }
 
-  pub coins-body : (at count start size : ℕ) → coinsOf file at count ≡ Body start size → Kept file at (countAt file at ≡ count) count count 1 (Bit file) start size
+  pub coins-body : (at count start size : ℕ) → coinsOf file at count ≡ Body start size → Kept file at (countAt file at ≡ count) count count 1 (BitAt file) start size
   unfolding coinsOf
   coins-body at count = section-body (coins-meant at count)

@@ -44,8 +44,8 @@ sectionRefusals file count Rule pieces width Keeps =
     ∷ []
 
 -- a byte that is "0 or 1"
-abbrev pub Bit : List ℕ → ℕ → Type 0
-Bit file place = getD file place 0 < 2
+abbrev pub BitAt : List ℕ → ℕ → Type 0
+BitAt file place = getD file place 0 < 2
 
 -- "k, the heads needed: more than n/2, at most n"
 abbrev pub Need : ℕ → List ℕ → ℕ → Type 0
@@ -66,13 +66,13 @@ fileRefusals file room =
     let fourth = third + 2 + rounds * n * 4 in
     let end = fourth + 2 + rounds * n in
     -- "1. Count n (2 to 32), then n proposals (0 or 1)."
-    sectionRefusals file 0 (Heads n) n 1 (Bit file)
+    sectionRefusals file 0 (Heads n) n 1 (BitAt file)
     -- "2. Count 1, then k"
     ++ sectionRefusals file second (countAt file second ≡ 1) 1 1 (Need n file)
     -- "3. Count of rounds, 0 to 256; per round n rows of 4 bytes"
     ++ sectionRefusals file third (rounds ≤ 256) (rounds * n) 4 (LossRow n file)
     -- "4. Count n times rounds, then that many coins (0 or 1)"
-    ++ sectionRefusals file fourth (countAt file fourth ≡ rounds * n) (rounds * n) 1 (Bit file)
+    ++ sectionRefusals file fourth (countAt file fourth ≡ rounds * n) (rounds * n) 1 (BitAt file)
     -- 15, "bytes after the last section"; "15, the first extra byte"
     ++ (15 exactly-when At end (end < length file))
     -- 16, "table shorter than n"; "16, place 0"; "Number 16 is tested after the whole file."

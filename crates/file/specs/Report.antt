@@ -3,6 +3,7 @@
 use Prim.Native.Nat.{ℕ, zero, suc, _-_, _^_}
 use Prim.Native.Char.{code}
 use Prim.Native.String.{String, [] as none, _∷_ as _then_}
+use mathlib.Core.Path.{_≡_}
 use mathlib.Core.List.{List, [], _∷_, _++_}
 use mathlib.Core.Bool.{cond}
 use lib.ListN.{length, replicate}
@@ -68,6 +69,10 @@ headLine s h =
 unfoldable pub headLines : ℕ → List Head → List (List ℕ)
 headLines zero heads = []
 headLines (suc k) heads = headLines k heads ++ headLine k (headOf heads k)
+
+-- two heads whose lines are to be one: "its last state", as far as it is printed
+abbrev pub SameState : Head → Head → Type 0
+SameState h k = (h .phase ≡ k .phase) × (h .value ≡ k .value) × (h .status ≡ k .status) × (h .decision ≡ k .decision)
 
 -- "Last line: rounds run, good rounds, heads whose status is decided."
 unfoldable pub lastLine : Outcome → List (List ℕ)

@@ -3,7 +3,7 @@
 use Prim.Native.Nat.{ℕ, zero, suc, _+_, _*_}
 use mathlib.Core.List.{List, [], _++_}
 use mathlib.Core.Bool.{cond}
-use lib.ListN.{length, getD, set, take, drop}
+use lib.ListN.{getD, set, take, drop}
 use Rattle.rules.specs.declared.Head.{Head}
 use Rattle.rules.specs.Ballot.{bytesOf}
 use Rattle.rules.specs.Heard.{member}
@@ -11,7 +11,7 @@ use Rattle.rules.specs.Head.{zeroHead, startOf, ballotOf}
 use Rattle.rules.specs.Tick.{tickOf}
 use Rattle.rules.specs.Record.{fourBytesAt}
 use Rattle.file.specs.declared.Plan.{Plan}
-use Rattle.file.specs.Plan.{planOf}
+use Rattle.file.specs.Plan.{planFor}
 
 -- the head at a place of the table
 abbrev pub headOf : List Head → ℕ → Head
@@ -62,5 +62,5 @@ startsIn file n table = placed n (startIn file n) table
 -- plan has no heads and no rounds.
 unfoldable pub tableAfter : List ℕ → List Head → List Head
 tableAfter file table =
-    let plan = planOf file (length table) in
+    let plan = planFor file table in
     roundsIn file plan (plan .rounds) (startsIn file (plan .n) table)

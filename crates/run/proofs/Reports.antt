@@ -6,7 +6,7 @@ use borrow.Author.Tests.{eq-eqb, ne-eqb}
 use Rattle.file.specs.declared.Outcome.{Outcome}
 use Rattle.file.specs.declared.Benched.{Benched}
 use Rattle.file.specs.declared.Text.{Text}
-use Rattle.file.specs.Figures.{outcomeIn, outcomeOf}
+use Rattle.file.specs.Figures.{outcomeOf}
 use Rattle.file.specs.Benched.{benchedOf}
 use Rattle.file.specs.Report.{joined, firstLine, headLines, lastLine, refusalLine, linesOf, reportOf, textOf}
 use Rattle.run.specs.Writing.{noText, withAll}
@@ -15,7 +15,7 @@ use Rattle.run.proofs.Texts.{all-append, words-are-text, report-short}
 
 -- a vote in the table of 32 has at most 32 heads
 pub benched-few : (file : List ℕ) → benchedOf file .outcome .n ≤ 32
-unfolding outcomeOf outcomeIn
+unfolding outcomeOf
 benched-few file = planned-room file 32
 
 module _ (file : List ℕ) (done : Benched) (is : done ≡ benchedOf file) where
