@@ -121,8 +121,14 @@ pub each-file-has-its-number-and-place : map (λ (c : Checked). c .gives) files 
 unfolding files reporting
 each-file-has-its-number-and-place = refl
 
--- "A refusal prints one line only: refused, number, at, place; for no input at all, "refused 12 at 0"."
-pub refusals-print : (reportOf [] ∷ reportOf (coins ++ (0 ∷ 1 ∷ [])) ∷ []) ≡ (word "refused 12 at 0\n" ∷ word "refused 15 at 27\n" ∷ [])
+-- "A refusal prints one line only: refused, number, at, place; for no input at all, "refused 12 at 0"."; and a place of
+-- three digits, of a file that says 32 heads and 256 rounds and ends after 300 bytes
+pub refusals-print :
+    (reportOf []
+    ∷ reportOf (coins ++ (0 ∷ 1 ∷ []))
+    ∷ reportOf ((0 ∷ 32 ∷ []) ++ replicate 32 1 ++ (0 ∷ 1 ∷ 17 ∷ []) ++ (1 ∷ 0 ∷ []) ++ replicate 261 0)
+    ∷ [])
+    ≡ (word "refused 12 at 0\n" ∷ word "refused 15 at 27\n" ∷ word "refused 12 at 300\n" ∷ [])
 unfolding reporting
 refusals-print = refl
 

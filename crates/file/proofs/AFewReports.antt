@@ -1,5 +1,5 @@
--- Three more reports, computed: each file tells errors apart that document 01's printed case does not. The texts are those of
--- the independent bench (`bash tests/independent/files report < FILE`; `tools/runfile` writes such a file). Then a lent table.
+-- A few more reports, computed: each file tells errors apart that document 01's printed case does not. The texts are those of
+-- the independent bench (`bash tests/independent/files report < FILE`; `tools/runfile` writes such a file). Then lent tables.
 use Prim.Native.Nat.{ℕ}
 use mathlib.Core.Path.{_≡_, refl}
 use mathlib.Core.List.{List, [], _∷_, _++_}
@@ -8,7 +8,7 @@ use Rattle.rules.specs.declared.Value.the-variants.{One}
 use Rattle.rules.specs.declared.Status.the-variants.{Undecided, Decided}
 use Rattle.rules.specs.declared.Decision.the-variants.{One as ForOne, Unwritten}
 use Rattle.rules.specs.declared.Head.{Head}
-use Rattle.rules.specs.Head.{zeroHead}
+use Rattle.rules.specs.Head.{zeroHead, startOf}
 use Rattle.file.specs.Table.{tableAfter}
 use Rattle.file.specs.Figures.{outcomeOf}
 use Rattle.file.specs.Report.{word, reportOf}
@@ -44,10 +44,10 @@ unfolding reporting
 loss-and-coin-prints = refl
 
 -- Five heads: head 0 decides in the second round, misses the third and copies an undecided ballot in the fourth. "Step 2 can
--- put status back to undecided. The decision stays.": five decisions are written, and four heads are decided.
+-- put status back to undecided. The decision stays.": five decisions are written, all of them 0, and four heads are decided.
 abbrev pub status-put-back : List ℕ
 status-put-back =
-    (0 ∷ 5 ∷ 1 ∷ 1 ∷ 1 ∷ 0 ∷ 0 ∷ []) ++ (0 ∷ 1 ∷ 3 ∷ [])
+    (0 ∷ 5 ∷ 0 ∷ 0 ∷ 0 ∷ 1 ∷ 1 ∷ []) ++ (0 ∷ 1 ∷ 3 ∷ [])
     ++ (0 ∷ 4 ∷ [])
     ++ rows (24 ∷ 24 ∷ 24 ∷ 17 ∷ 17 ∷ [])
     ++ rows (24 ∷ 17 ∷ 17 ∷ 17 ∷ 17 ∷ [])
@@ -58,11 +58,11 @@ status-put-back =
 
 pub status-put-back-prints : reportOf status-put-back ≡
     word "heads 5 need 3 bound 7\n"
-    ++ word "head 0 phase 4 value 1 status undecided decision 1\n"
-    ++ word "head 1 phase 5 value 1 status decided decision 1\n"
-    ++ word "head 2 phase 5 value 1 status decided decision 1\n"
-    ++ word "head 3 phase 5 value 1 status decided decision 1\n"
-    ++ word "head 4 phase 5 value 1 status decided decision 1\n"
+    ++ word "head 0 phase 4 value 0 status undecided decision 0\n"
+    ++ word "head 1 phase 5 value 0 status decided decision 0\n"
+    ++ word "head 2 phase 5 value 0 status decided decision 0\n"
+    ++ word "head 3 phase 5 value 0 status decided decision 0\n"
+    ++ word "head 4 phase 5 value 0 status decided decision 0\n"
     ++ word "rounds 4 good 1 decided 4\n"
 unfolding reporting
 status-put-back-prints = refl
@@ -103,17 +103,42 @@ pub two-digits-prints : reportOf two-digits ≡
 unfolding reporting
 two-digits-prints = refl
 
+-- Ten heads, all of them needed, and ten rounds that lose nothing: every figure but the bound has two digits, every phase too.
+abbrev pub every-figure-two-digits : List ℕ
+every-figure-two-digits =
+    (0 ∷ 10 ∷ []) ++ replicate 10 1 ++ (0 ∷ 1 ∷ 10 ∷ [])
+    ++ (0 ∷ 10 ∷ [])
+    ++ replicate 400 0
+    ++ (0 ∷ 100 ∷ [])
+    ++ replicate 100 0
+
+pub every-figure-two-digits-prints : reportOf every-figure-two-digits ≡
+    word "heads 10 need 10 bound 8\n"
+    ++ word "head 0 phase 11 value 1 status decided decision 1\n"
+    ++ word "head 1 phase 11 value 1 status decided decision 1\n"
+    ++ word "head 2 phase 11 value 1 status decided decision 1\n"
+    ++ word "head 3 phase 11 value 1 status decided decision 1\n"
+    ++ word "head 4 phase 11 value 1 status decided decision 1\n"
+    ++ word "head 5 phase 11 value 1 status decided decision 1\n"
+    ++ word "head 6 phase 11 value 1 status decided decision 1\n"
+    ++ word "head 7 phase 11 value 1 status decided decision 1\n"
+    ++ word "head 8 phase 11 value 1 status decided decision 1\n"
+    ++ word "head 9 phase 11 value 1 status decided decision 1\n"
+    ++ word "rounds 10 good 10 decided 10\n"
+unfolding reporting
+every-figure-two-digits-prints = refl
+
 -- Two heads in a lent table of four: the third could be ticked with their ballots, and the fourth is decided. "after a run the
 -- first n are the heads and the others are untouched", nor are they counted.
-abbrev two-heads : List ℕ
+abbrev pub two-heads : List ℕ
 two-heads = (0 ∷ 2 ∷ 0 ∷ 1 ∷ []) ++ (0 ∷ 1 ∷ 2 ∷ []) ++ (0 ∷ 1 ∷ []) ++ rows (0 ∷ 0 ∷ []) ++ (0 ∷ 2 ∷ 0 ∷ 0 ∷ [])
 
-abbrev others : List Head
+abbrev pub others : List Head
 others =
     record { n = 3; own = 2; phase = 1; value = One; status = Undecided; decision = Unwritten; zeros = 0; ones = 0; blanks = 0 }
     ∷ record { n = 3; own = 1; phase = 3; value = One; status = Decided; decision = ForOne; zeros = 0; ones = 0; blanks = 0 } ∷ []
 
-abbrev lent : List Head
+abbrev pub lent : List Head
 lent = zeroHead ∷ zeroHead ∷ others
 
 pub others-are-not-counted : outcomeOf two-heads lent ≡ record { number = 0; place = 0; n = 2; needed = 2; bound = 0; rounds = 1; good = 1; decided = 0 }
@@ -128,3 +153,14 @@ others-are-left-alone = refl
 pub a-refused-file-leaves-the-table : tableAfter (two-heads ++ (0 ∷ [])) lent ≡ lent
 unfolding reporting
 a-refused-file-leaves-the-table = refl
+
+-- The same in a table that already holds heads of another vote, one started and one decided: they are started anew.
+abbrev used : List Head
+used =
+    startOf 4 3 1 .head
+    ∷ record { n = 4; own = 2; phase = 7; value = One; status = Decided; decision = ForOne; zeros = 0; ones = 5; blanks = 0 }
+    ∷ others
+
+pub heads-are-started-anew : (outcomeOf two-heads used ≡ outcomeOf two-heads lent) × (tableAfter two-heads used ≡ tableAfter two-heads lent)
+unfolding reporting
+heads-are-started-anew = (refl, refl)

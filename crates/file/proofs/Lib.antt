@@ -19,3 +19,4 @@ pub mod Decimals
 pub mod LinesApart
 pub mod EqualReports
 pub mod TheBench
+pub mod TheBenchApplied

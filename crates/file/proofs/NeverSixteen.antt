@@ -13,12 +13,12 @@ use Rattle.file.specs.Plan.{planOf}
 use Rattle.file.proofs.Plans.{plan-given}
 
 -- where a number other than 0 is given, one of its lines applies at the place
-abbrev Applying : ℕ → ℕ → List Line → Type 0
+abbrev pub Applying : ℕ → ℕ → List Line → Type 0
 Applying number place [] = ⊥
 Applying number place ((k exactly-when Applies) ∷ later) =
     cond (eqb k number) (Applies place ⊎ Applying number place later) (Applying number place later)
 
-given-applies : (number place : ℕ) (lines : List Line)
+pub given-applies : (number place : ℕ) (lines : List Line)
     → (number ≡ 0 → ⊥)
     → Given number place lines
     → Applying number place lines
