@@ -1,5 +1,6 @@
--- A few more reports, computed: each file tells errors apart that document 01's printed case does not. The texts are those of
--- the independent bench (`bash tests/independent/files report < FILE`; `tools/runfile` writes such a file). Then lent tables.
+-- A few more reports, computed: each file tells errors apart that document 01's printed case does not. The texts are
+-- those of the independent bench (`bash tests/independent/files report < FILE`; `tools/runfile` writes such a file).
+-- Then lent tables.
 use Prim.Native.Nat.{ℕ}
 use mathlib.Core.Path.{_≡_, refl}
 use mathlib.Core.List.{List, [], _∷_, _++_}
@@ -19,9 +20,9 @@ abbrev rows : List ℕ → List ℕ
 rows [] = []
 rows (low ∷ more) = 0 ∷ 0 ∷ 0 ∷ low ∷ rows more
 
--- Three heads: values blank and 0, nothing decided, one round at the bound and two above it. Other losses, receiver and sender
--- exchanged, ballots formed after ticks, the own ballot always heard, other coins or coins in another order: each prints
--- something else.
+-- Three heads: values blank and 0, nothing decided, one round at the bound and two above it. Other losses, receiver and
+-- sender exchanged, ballots formed after ticks, the own ballot always heard, other coins or coins in another order:
+-- each prints something else.
 abbrev pub loss-and-coin : List ℕ
 loss-and-coin =
     (0 ∷ 3 ∷ 1 ∷ 0 ∷ 0 ∷ []) ++ (0 ∷ 1 ∷ 2 ∷ [])
@@ -43,8 +44,9 @@ pub loss-and-coin-prints : reportOf loss-and-coin ≡
 unfolding reporting
 loss-and-coin-prints = refl
 
--- Five heads: head 0 decides in the second round, misses the third and copies an undecided ballot in the fourth. "Step 2 can
--- put status back to undecided. The decision stays.": five decisions are written, all of them 0, and four heads are decided.
+-- Five heads: head 0 decides in the second round, misses the third and copies an undecided ballot in the fourth. "Step
+-- 2 can put status back to undecided. The decision stays.": five decisions are written, all of them 0, and four heads
+-- are decided.
 abbrev pub status-put-back : List ℕ
 status-put-back =
     (0 ∷ 5 ∷ 0 ∷ 0 ∷ 0 ∷ 1 ∷ 1 ∷ []) ++ (0 ∷ 1 ∷ 3 ∷ [])
@@ -103,7 +105,8 @@ pub two-digits-prints : reportOf two-digits ≡
 unfolding reporting
 two-digits-prints = refl
 
--- Ten heads, all of them needed, and ten rounds that lose nothing: every figure but the bound has two digits, every phase too.
+-- Ten heads, all of them needed, and ten rounds that lose nothing: every figure but the bound has two digits, every
+-- phase too.
 abbrev pub every-figure-two-digits : List ℕ
 every-figure-two-digits =
     (0 ∷ 10 ∷ []) ++ replicate 10 1 ++ (0 ∷ 1 ∷ 10 ∷ [])
@@ -128,20 +131,42 @@ pub every-figure-two-digits-prints : reportOf every-figure-two-digits ≡
 unfolding reporting
 every-figure-two-digits-prints = refl
 
--- Two heads in a lent table of four: the third could be ticked with their ballots, and the fourth is decided. "after a run the
--- first n are the heads and the others are untouched", nor are they counted.
+-- Two heads in a lent table of four: the third could be ticked with their ballots, and the fourth is decided. "after a
+-- run the first n are the heads and the others are untouched", nor are they counted.
 abbrev pub two-heads : List ℕ
 two-heads = (0 ∷ 2 ∷ 0 ∷ 1 ∷ []) ++ (0 ∷ 1 ∷ 2 ∷ []) ++ (0 ∷ 1 ∷ []) ++ rows (0 ∷ 0 ∷ []) ++ (0 ∷ 2 ∷ 0 ∷ 0 ∷ [])
 
 abbrev pub others : List Head
 others =
-    record { n = 3; own = 2; phase = 1; value = One; status = Undecided; decision = Unwritten; zeros = 0; ones = 0; blanks = 0 }
-    ∷ record { n = 3; own = 1; phase = 3; value = One; status = Decided; decision = ForOne; zeros = 0; ones = 0; blanks = 0 } ∷ []
+    record {
+      n = 3;
+      own = 2;
+      phase = 1;
+      value = One;
+      status = Undecided;
+      decision = Unwritten;
+      zeros = 0;
+      ones = 0;
+      blanks = 0;
+    }
+    ∷ record {
+      n = 3;
+      own = 1;
+      phase = 3;
+      value = One;
+      status = Decided;
+      decision = ForOne;
+      zeros = 0;
+      ones = 0;
+      blanks
+          = 0;
+    } ∷ []
 
 abbrev pub lent : List Head
 lent = zeroHead ∷ zeroHead ∷ others
 
-pub others-are-not-counted : outcomeOf two-heads lent ≡ record { number = 0; place = 0; n = 2; needed = 2; bound = 0; rounds = 1; good = 1; decided = 0 }
+pub others-are-not-counted : outcomeOf two-heads lent
+    ≡ record { number = 0; place = 0; n = 2; needed = 2; bound = 0; rounds = 1; good = 1; decided = 0 }
 unfolding reporting
 others-are-not-counted = refl
 
@@ -158,9 +183,21 @@ a-refused-file-leaves-the-table = refl
 abbrev used : List Head
 used =
     startOf 4 3 1 .head
-    ∷ record { n = 4; own = 2; phase = 7; value = One; status = Decided; decision = ForOne; zeros = 0; ones = 5; blanks = 0 }
+    ∷ record {
+      n = 4;
+      own = 2;
+      phase = 7;
+      value = One;
+      status = Decided;
+      decision = ForOne;
+      zeros = 0;
+      ones = 5;
+      blanks
+          = 0;
+    }
     ∷ others
 
-pub heads-are-started-anew : (outcomeOf two-heads used ≡ outcomeOf two-heads lent) × (tableAfter two-heads used ≡ tableAfter two-heads lent)
+pub heads-are-started-anew : (outcomeOf two-heads used ≡ outcomeOf two-heads lent)
+    × (tableAfter two-heads used ≡ tableAfter two-heads lent)
 unfolding reporting
 heads-are-started-anew = (refl, refl)

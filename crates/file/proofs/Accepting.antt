@@ -14,7 +14,8 @@ use Rattle.file.specs.Plan.{planFor}
 use Rattle.file.specs.Table.{tableAfter}
 use Rattle.file.specs.Figures.{outcomeOf, Accepts}
 use Rattle.file.specs.Benched.{emptyTable, benchedOf}
-use Rattle.file.proofs.Plans.{RuleByRule, RefusedFile, plan-given, accepted-file, refused-file, accepted-exactly, no-line-applies}
+use Rattle.file.proofs.Plans.{RuleByRule, RefusedFile, plan-given, accepted-file, refused-file, accepted-exactly}
+use Rattle.file.proofs.Plans.{no-line-applies}
 use Rattle.file.proofs.NeverSixteen.{never-sixteen}
 use Rattle.file.proofs.LargestFile.{padded, padded-length, largest-keeps}
 use Rattle.file.proofs.FirstBytes.{refused-table}
@@ -23,7 +24,8 @@ same-number : (file : List ℕ) (table : List Head) → outcomeOf file table .nu
 unfolding outcomeOf
 same-number file table = refl
 
-pub accepted : (file : List ℕ) (table : List Head) → Accepts file table → RuleByRule file (length table) (planFor file table)
+pub accepted : (file : List ℕ) (table : List Head) → Accepts file table
+    → RuleByRule file (length table) (planFor file table)
 accepted file table zero = accepted-file file (length table) (sym (same-number file table) ∙ zero)
 
 refused : (file : List ℕ) (table : List Head) → (Accepts file table → ⊥) → RefusedFile file (planFor file table)
@@ -54,20 +56,24 @@ never-16 file sixteen = never-sixteen file (sym (same-number file emptyTable) �
 pub at-most-41001 : (file : List ℕ) (table : List Head) → Accepts file table → length file ≤ 41001
 at-most-41001 file table zero =
     let keeps = accepted file table zero in
-    let rows : planFor file table .rounds * planFor file table .n ≤ 256 * 32 = mul-le-mul (keeps .rounds) (keeps .heads .1) in
+    let rows : planFor file table .rounds * planFor file table .n ≤ 256 * 32 =
+    mul-le-mul (keeps .rounds) (keeps .heads .1) in
     omega (arith, keeps .whole, keeps .coins, keeps .heads .1, rows)
 
 pub largest-accepted : (file : List ℕ) × (length file ≡ 41001) × Accepts file emptyTable
 largest-accepted = accepting 32768 8192 refl refl
   where
-    accepting : (rows coins : ℕ) → rows ≡ 32768 → coins ≡ 8192 → (file : List ℕ) × (length file ≡ 41001) × Accepts file emptyTable
+    accepting : (rows coins : ℕ) → rows ≡ 32768 → coins ≡ 8192 → (file : List ℕ) × (length file ≡ 41001)
+        × Accepts file emptyTable
     accepting rows coins many more = (
       padded rows coins,
       omega (arith, padded-length rows coins, many, more),
-      same-number (padded rows coins) emptyTable ∙ no-line-applies (padded rows coins) 32 _ (largest-keeps rows coins many more),
+      same-number (padded rows coins) emptyTable
+          ∙ no-line-applies (padded rows coins) 32 _ (largest-keeps rows coins many more),
     )
 
-pub refused-changes-nothing : (file : List ℕ) (table : List Head) → (Accepts file table → ⊥) → tableAfter file table ≡ table
+pub refused-changes-nothing : (file : List ℕ) (table : List Head) → (Accepts file table → ⊥) → tableAfter file table
+    ≡ table
 refused-changes-nothing file table not-zero =
     let R = refused file table not-zero in
     refused-table file table (R .number) (R .place) (R .is)

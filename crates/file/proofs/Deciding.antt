@@ -35,13 +35,16 @@ module _ (file : List ℕ) (plan : Plan) (table : List Head) (keeps : RuleByRule
   decides : (r s : ℕ) → s < plan .n
       → headIn (voteIn file plan) (eventsIn file plan (suc (suc r))) s .decision ≡ decisionFor (valueOf bit)
   decides zero s h =
-      two-lossless-rounds-decide (voteIn file plan) (record { heads = keeps .heads; bits = keeps .proposal }) bit low most
+      two-lossless-rounds-decide (voteIn file plan)
+      (record { heads = keeps .heads; bits = keeps .proposal }) bit low most
       (channelIn file plan 0) (channelIn file plan 1) first second
       (coin-bit file plan table keeps 0 (omega arith)) (coin-bit file plan table keeps 1 (omega arith)) s h
   decides (suc r) s h =
-      ap (λ (k : Head). k .decision) (ticked-once (voteIn file plan) before (channelIn file plan (suc (suc r))) (plan .n) s h)
+      ap (λ (k : Head). k .decision) (ticked-once (voteIn file plan) before (channelIn file plan (suc (suc r)))
+      (plan .n) s h)
       ∙ tick-keeps-decision (headIn (voteIn file plan) before s)
-      (received (voteIn file plan) before (channelIn file plan (suc (suc r))) s (plan .n)) (channelIn file plan (suc (suc r)) .coin s)
+      (received (voteIn file plan) before (channelIn file plan (suc (suc r))) s (plan .n))
+      (channelIn file plan (suc (suc r)) .coin s)
       (λ none. bit-written bit low (sym (decides r s h) ∙ none))
       ∙ decides r s h
     where

@@ -1,5 +1,5 @@
--- A number's decimal digits: the fewest that hold it are the places of the definition, there are at most 20, and they tell
--- the number.
+-- A number's decimal digits: the fewest that hold it are the places of the definition, there are at most 20, and they
+-- tell the number.
 use Prim.Native.Nat.{ℕ, zero, suc, _+_, _-_, _*_, _/_, _%_, _≤_, _<_, _^_}
 use mathlib.Core.Path.{_≡_, refl, sym, ap, ap₂, subst, _∙_}
 use mathlib.Core.List.{List, [], _∷_, _++_}
@@ -22,7 +22,14 @@ few-digits n k fewest small = go (decLt 20 k)
   where
     go : Dec (20 < k) → k ≤ 20
     go (no h) = omega arith
-    go (yes h) = absurd (omega (arith, small, fewest .2 (omega arith), pow-le-pow-right {n = 10} (lit< tt) {i = 20} {j = k - 1} (omega arith)))
+    go (yes h) =
+        absurd (omega (
+          arith,
+          small,
+          fewest .2 (omega arith),
+          pow-le-pow-right {n = 10} (lit< tt) {i = 20} {j = k - 1}
+              (omega arith),
+        ))
 
 -- the fewest digits are the places
 pub places-is : (n k : ℕ) → Fewest 10 1 n k → n < 10 ^ 20 → k ≡ places n
@@ -46,7 +53,9 @@ places-is n (suc j) fewest small = ap suc (go (decLt j 19))
 
 digits-length : (b k n : ℕ) → length (digits b k n) ≡ k
 digits-length b zero n = refl
-digits-length b (suc k) n = length-append (digits b k (n / b)) _ ∙ (let more : k + 1 ≡ suc k = omega arith in ap (λ (m : ℕ). m + 1) (digits-length b k (n / b)) ∙ more)
+digits-length b (suc k) n =
+    length-append (digits b k (n / b)) _ ∙ (let more : k + 1
+    ≡ suc k = omega arith in ap (λ (m : ℕ). m + 1) (digits-length b k (n / b)) ∙ more)
 
 pub decimal-short : (n : ℕ) → length (decimal n) ≤ 20
 unfolding decimal
@@ -72,7 +81,8 @@ digits-read (suc k) n h =
     let i = digits-read k (n / 10) few in
     let last : n % 10 < 10 = omega arith in
     let back : n / 10 * 10 + n % 10 ≡ n = omega arith in
-    read-last 0 (glyph (n % 10)) (digits 10 k (n / 10)) ∙ ap₂ (λ (a b : ℕ). a * 10 + b) i (glyph-read (n % 10) last) ∙ back
+    read-last 0 (glyph (n % 10)) (digits 10 k (n / 10)) ∙ ap₂ (λ (a b : ℕ). a * 10 + b) i (glyph-read (n % 10) last)
+    ∙ back
 
 -- twenty digits hold every number below 10 ^ 20
 held-by-places : (n : ℕ) → n < 10 ^ 20 → n < 10 ^ places n
@@ -87,7 +97,8 @@ held-by-places n small = go (decLt (first 19 (λ k. ltb n (10 ^ suc k))) 19)
 pub decimal-tells : (m n : ℕ) → m < 10 ^ 20 → n < 10 ^ 20 → decimal m ≡ decimal n → m ≡ n
 unfolding decimal
 decimal-tells m n a b e =
-    sym (digits-read (places m) m (held-by-places m a)) ∙ ap (readOn 0) e ∙ digits-read (places n) n (held-by-places n b)
+    sym (digits-read (places m) m (held-by-places m a)) ∙ ap (readOn 0) e
+    ∙ digits-read (places n) n (held-by-places n b)
 
 -- ---- no space and no newline is a digit
 

@@ -1,5 +1,5 @@
--- Equal reports come from equal figures and heads: every number that is printed has at most twenty digits, and the lines
--- tell what they print.
+-- Equal reports come from equal figures and heads: every number that is printed has at most twenty digits, and the
+-- lines tell what they print.
 use Prim.Native.Nat.{ℕ, suc, _+_, _*_, _-_, _/_, _≤_, _<_, _^_}
 use mathlib.Core.Path.{_≡_, refl, sym, ap, ap₂, subst, _∙_}
 use mathlib.Core.List.{List, _++_, append-assoc}
@@ -28,12 +28,14 @@ use Rattle.file.specs.Report.{joined, firstLine, headLines, lastLine, re
 use Rattle.file.proofs.Plans.{RuleByRule, RefusedFile, accepted-file, refused-file}
 use Rattle.file.proofs.BenchIsRun.{heads-are, rounds-are-run, events-length}
 use Rattle.file.proofs.FirstBytes.{refused-outcome}
-use Rattle.file.proofs.LinesApart.{Printable, PrintableOutcome, refusal-apart, first-apart, lines-apart, last-apart}
+use Rattle.file.proofs.LinesApart.{Printable, PrintableOutcome, refusal-apart, first-apart, lines-apart}
+use Rattle.file.proofs.LinesApart.{last-apart}
 
 abbrev Same : List ℕ → List ℕ → Type 0
 Same file other =
     (benchedOf file .outcome ≡ benchedOf other .outcome)
-    × ((s : ℕ) → s < benchedOf file .outcome .n → SameState (headOf (benchedOf file .heads) s) (headOf (benchedOf other .heads) s))
+    × ((s : ℕ) → s < benchedOf file .outcome .n
+    → SameState (headOf (benchedOf file .heads) s) (headOf (benchedOf other .heads) s))
 
 -- ---- how large the figures are
 
@@ -70,7 +72,8 @@ module _ (file : List ℕ) (short : length file < 2 ^ 64) where
         omega (arith, mul-le-mul half rest, heads-few, keeps .atMost)
 
     good-small : goodIn file plan (plan .rounds) ≤ plan .rounds
-    good-small = count-le (plan .rounds) (λ r. leb (lostIn (rowsIn file plan r) (plan .n)) (boundOf (plan .n) (plan .needed)))
+    good-small =
+        count-le (plan .rounds) (λ r. leb (lostIn (rowsIn file plan r) (plan .n)) (boundOf (plan .n) (plan .needed)))
 
     decided-small : decidedIn (tableAfter file emptyTable) (plan .n) ≤ plan .n
     decided-small = count-le (plan .n) (λ s. isDecided (headOf (tableAfter file emptyTable) s))
@@ -98,7 +101,14 @@ module _ (file : List ℕ) (short : length file < 2 ^ 64) where
         let run = rounds-are-run file plan emptyTable keeps (plan .rounds) (omega arith) in
         let low = phases-low vote events run (ballotOf (headIn vote events s)) (sent-now vote events s h) in
         let at = ap (λ (k : Head). k .phase) (heads-are file plan emptyTable keeps (plan .rounds) s h) in
-        omega (arith, low, at, events-length file plan emptyTable keeps (plan .rounds), mul-le-mul (keeps .rounds) heads-few)
+        omega (
+          arith,
+          low,
+          at,
+          events-length file plan emptyTable keeps (plan .rounds),
+          mul-le-mul
+              (keeps .rounds) heads-few,
+        )
 
   small : PrintableOutcome outcome
   small = go (ℕ-discrete (plan .number) 0)
@@ -170,7 +180,8 @@ module _ (file other : List ℕ) (short : length file < 2 ^ 64) (brief : length 
       lines = sym (ap joined (accepted-lines (benchedOf file) a)) ∙ e ∙ ap joined (accepted-lines (benchedOf other) b)
 
       x : (o .n ≡ p .n) × (o .needed ≡ p .needed) × (o .bound ≡ p .bound)
-          × (joined (headLines (o .n) (benchedOf file .heads) ++ lastLine o) ≡ joined (headLines (p .n) (benchedOf other .heads) ++ lastLine p))
+          × (joined (headLines (o .n) (benchedOf file .heads) ++ lastLine o)
+          ≡ joined (headLines (p .n) (benchedOf other .heads) ++ lastLine p))
       x =
           first-apart o p (headLines (o .n) (benchedOf file .heads) ++ lastLine o)
           (headLines (p .n) (benchedOf other .heads) ++ lastLine p) (small file short) (small other brief) lines
@@ -178,7 +189,8 @@ module _ (file other : List ℕ) (short : length file < 2 ^ 64) (brief : length 
       y : ((s : ℕ) → s < o .n → SameState (headOf (benchedOf file .heads) s) (headOf (benchedOf other .heads) s))
           × (joined (lastLine o) ≡ joined (lastLine p))
       y =
-          lines-apart (benchedOf file .heads) (benchedOf other .heads) (o .n) (lastLine o) (lastLine p) (small file short .n)
+          lines-apart (benchedOf file .heads) (benchedOf other .heads) (o .n) (lastLine o) (lastLine p)
+          (small file short .n)
           (phases-small file short a) (λ s h. phases-small other brief b s (omega (arith, h, x .0)))
           (x .3 ∙ ap (λ (n : ℕ). joined (headLines n (benchedOf other .heads) ++ lastLine p)) (sym (x .0)))
 
@@ -196,7 +208,16 @@ module _ (file other : List ℕ) (short : length file < 2 ^ 64) (brief : length 
 
       answered : ℕ → ℕ → Outcome
       answered number place =
-          record { number = number; place = place; n = 0; needed = 0; bound = boundOf 0 0; rounds = 0; good = 0; decided = 0 }
+          record {
+            number = number;
+            place = place;
+            n = 0;
+            needed = 0;
+            bound = boundOf 0 0;
+            rounds = 0;
+            good = 0;
+            decided = 0;
+          }
 
       first : o ≡ answered (R .number) (R .place)
       first = refused-outcome file emptyTable (R .number) (R .place) (R .is)

@@ -1,4 +1,5 @@
--- "The largest file is 41,001 bytes.": 32 heads, 256 rounds, every row and coin zero. Its bytes are argued, not computed.
+-- "The largest file is 41,001 bytes.": 32 heads, 256 rounds, every row and coin zero. Its bytes are argued, not
+-- computed.
 use Prim.Native.Nat.{ℕ, _+_, _*_, _<_}
 use mathlib.Core.Path.{_≡_, refl, sym, ap, ap₂, _∙_}
 use mathlib.Core.List.{List, [], _∷_, _++_}
@@ -68,7 +69,8 @@ module _ (rows coins : ℕ) where
 
   -- a row's four bytes are zero
   no-losses : (i : ℕ) → i * 4 + 3 < rows → fourBytesAt (padded rows coins) (39 + i * 4) ≡ 0
-  no-losses i h = rw (row-at (i * 4) (omega arith), byte 1 (omega arith), byte 2 (omega arith), byte 3 (omega arith)) refl
+  no-losses i h =
+      rw (row-at (i * 4) (omega arith), byte 1 (omega arith), byte 2 (omega arith), byte 3 (omega arith)) refl
     where
       byte : (j : ℕ) → j < 4 → getD (padded rows coins) (39 + i * 4 + j) 0 ≡ 0
       byte j low =
@@ -92,7 +94,9 @@ module _ (rows coins : ℕ) where
         rounds = lit≤ tt;
         losses = refl;
         row = λ i h s m. never (sym (ap (member s) (no-losses i (omega (arith, h, many))) ∙ member-none s) ∙ m);
-        fourth = ap₂ (λ (a b : ℕ). a * 256 + b) (after-at 32807 0 (omega (arith, many))) (after-at 32808 1 (omega (arith, many)));
+        fourth =
+            ap₂ (λ (a b : ℕ). a * 256 + b) (after-at 32807 0 (omega (arith, many)))
+            (after-at 32808 1 (omega (arith, many)));
         coins = refl;
         coin = coin-at;
         whole = omega (arith, padded-length, many, more);

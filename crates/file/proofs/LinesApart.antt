@@ -70,7 +70,8 @@ last-apart o p a b e =
     (x .0, y .0, z .0)
 
 -- "One line a head, its last state"
-head-apart : (s : ℕ) (h k : Head) (more less : List (List ℕ)) → Printable s → Printable (h .phase) → Printable (k .phase)
+head-apart : (s : ℕ) (h k : Head) (more less : List (List ℕ)) → Printable s → Printable (h .phase)
+    → Printable (k .phase)
     → joined (headLine s h ++ more) ≡ joined (headLine s k ++ less) → SameState h k × (joined more ≡ joined less)
 unfolding headLine
 head-apart s h k more less few a b e =
@@ -98,7 +99,8 @@ module _ (hs ks : List Head) where
       ∙ e
       ∙ ap joined (append-assoc (headLines k ks) (headLine k (headOf ks k)) less)) in
       let at =
-      head-apart k (headOf hs k) (headOf ks k) more less (omega (arith, few)) (a k (omega arith)) (b k (omega arith)) (upTo .1) in
+      head-apart k (headOf hs k) (headOf ks k) more less (omega (arith, few)) (a k (omega arith)) (b k (omega arith))
+      (upTo .1) in
       (λ s h. below s h (ℕ-discrete s k) (upTo .0 s) (at .0), at .1)
     where
       below : (s : ℕ) → s < suc k → Dec (s ≡ k) → (s < k → SameState (headOf hs s) (headOf ks s))

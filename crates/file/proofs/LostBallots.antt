@@ -26,13 +26,15 @@ module _ (file : List ℕ) (plan : Plan) (room : ℕ) (keeps : RuleByRule file r
       → fourBytesAt (rowsIn file plan r) (k * 4) ≡ fourBytesAt file (plan .losses + (r * plan .n + k) * 4)
   row-of r k h =
       let same : plan .losses + r * plan .n * 4 + k * 4 ≡ plan .losses + (r * plan .n + k) * 4 = omega arith in
-      four-bytes-at file (plan .losses + r * plan .n * 4) (plan .n * 4) (k * 4) (omega arith) ∙ ap (fourBytesAt file) same
+      four-bytes-at file (plan .losses + r * plan .n * 4) (plan .n * 4) (k * 4) (omega arith)
+      ∙ ap (fourBytesAt file) same
 
   -- "Bits from n up are zero."
   below-n : (r : ℕ) → r < plan .rounds → (k : ℕ) → k < plan .n
       → (s : ℕ) → member s (fourBytesAt (rowsIn file plan r) (k * 4)) ≡ true → s < plan .n
   below-n r early k h s m =
-      let row : r * plan .n + k < plan .rounds * plan .n = omega (arith, h, mul-le-mul-right (plan .n) early, suc-mul r (plan .n)) in
+      let row : r * plan .n + k < plan .rounds * plan .n =
+      omega (arith, h, mul-le-mul-right (plan .n) early, suc-mul r (plan .n)) in
       keeps .row (r * plan .n + k) row s (sym (ap (member s) (row-of r k h)) ∙ m)
 
   lost-is : (r : ℕ) → r < plan .rounds → (k : ℕ) → k ≤ plan .n
@@ -41,7 +43,8 @@ module _ (file : List ℕ) (plan : Plan) (room : ℕ) (keeps : RuleByRule file r
   lost-is r early zero h = refl
   lost-is r early (suc k) h =
       ap₂ (λ (a b : ℕ). a + b) (lost-is r early k (omega arith))
-      (count-within 32 (λ s. member s (fourBytesAt (rowsIn file plan r) (k * 4))) (keeps .heads .1) (below-n r early k h))
+      (count-within 32 (λ s. member s (fourBytesAt (rowsIn file plan r) (k * 4))) (keeps .heads .1)
+      (below-n r early k h))
 
   pub rows-count-what-is-lost : (r : ℕ)
       → r < plan .rounds
@@ -50,7 +53,8 @@ module _ (file : List ℕ) (plan : Plan) (room : ℕ) (keeps : RuleByRule file r
 
   -- so the good rounds are those whose channel loses no more than the bound
   pub good-is : goodIn file plan (plan .rounds)
-      ≡ count (plan .rounds) (λ r. leb (lostTo (plan .n) (channelIn file plan r) (plan .n)) (boundOf (plan .n) (plan .needed)))
+      ≡ count (plan .rounds) (λ r. leb (lostTo (plan .n) (channelIn file plan r) (plan .n))
+      (boundOf (plan .n) (plan .needed)))
   good-is =
       count-same (plan .rounds) _ _
       (λ r early. ap (λ (lost : ℕ). leb lost (boundOf (plan .n) (plan .needed))) (rows-count-what-is-lost r early))

@@ -23,7 +23,8 @@ pub given-applies : (number place : ℕ) (lines : List Line)
     → Given number place lines
     → Applying number place lines
 given-applies number place [] some g = absurd (some (g .0))
-given-applies number place ((k exactly-when Applies) ∷ later) some (inl x) = rw (eq-eqb k number (sym (x .1))) (inl (x .0))
+given-applies number place ((k exactly-when Applies) ∷ later) some (inl x) =
+    rw (eq-eqb k number (sym (x .1))) (inl (x .0))
 given-applies number place ((k exactly-when Applies) ∷ later) some (inr x) =
     go (eqb k number) (given-applies number place later some (x .1))
   where

@@ -1,5 +1,5 @@
--- What a plan says: either the file is refused, by a number from 12 to 16, and there are no heads and no rounds; or it is
--- accepted, and every byte of it has its place and keeps its rule. In both cases number and place are those of
+-- What a plan says: either the file is refused, by a number from 12 to 16, and there are no heads and no rounds; or it
+-- is accepted, and every byte of it has its place and keeps its rule. In both cases number and place are those of
 -- specs/Refusal.
 use Prim.Native.Nat.{ℕ, _+_, _*_, _≤_, _<_}
 use mathlib.Core.Path.{_≡_, refl, sym, ap, ap₂, subst, _∙_}
@@ -20,7 +20,8 @@ use Rattle.file.specs.Section.{countAt, counted, unlessBroken, checked, 
 use Rattle.file.specs.Rules.{StandsIn, KeepsEveryRule}
 use Rattle.file.specs.Refusal.{Line, _exactly-when_, Given, sectionRefusals, BitAt, Need, LossRow, fileRefusals}
 use Rattle.file.specs.Plan.{refusedPlan, taken, closedOf, afterLosses, afterNeeded, afterProposals, planOf}
-use Rattle.file.proofs.Sections.{Tells, tells-below, in-order, Meant, Kept, kept, tells-rule, tells-first, first-near, proposals-meant, needed-meant, losses-meant, coins-meant}
+use Rattle.file.proofs.Sections.{Tells, tells-below, in-order, Meant, Kept, kept, tells-rule, tells-first}
+use Rattle.file.proofs.Sections.{first-near, proposals-meant, needed-meant, losses-meant, coins-meant}
 
 pub record RefusedFile (file : List ℕ) (plan : Plan) : Type 0 where
   pub number : ℕ
@@ -83,7 +84,11 @@ module _ (file : List ℕ) (room : ℕ) where
       record {
         given = λ m p. (
           λ e. inl (subst Applies (e .1) (tells .0 refl), sym (numbered .0 ∙ e .0)),
-          λ g. elim g [ inl x ↦ (sym (x .1 ∙ numbered .0), sym (tells .1 p (x .0) .1)) | inr x ↦ absurd (x .0 place (tells .0 refl)) ],
+          λ g. elim g [
+            | inl x ↦ (sym (x .1 ∙ numbered .0), sym (tells .1 p (x .0) .1))
+            | inr x ↦ absurd
+                (x .0 place (tells .0 refl))
+          ],
         );
         either =
             inr
@@ -106,7 +111,8 @@ module _ (file : List ℕ) (room : ℕ) where
       }
 
   -- "Each section's answer is taken apart"
-  section-line : {number place k : ℕ} {Applies : ℕ → Type 0} {later : List Line} (next : ℕ → ℕ → Plan) (s : Section) (t : Bool)
+  section-line : {number place k : ℕ} {Applies : ℕ → Type 0} {later : List Line} (next : ℕ → ℕ → Plan) (s : Section)
+      (t : Bool)
       → Numbered k number
       → Tells t place Applies
       → (t ≡ true → place ≤ length file)
@@ -116,7 +122,8 @@ module _ (file : List ℕ) (room : ℕ) where
   section-line next s false = line false
 
   -- a section and its four lines
-  section : {count : ℕ} {breaks : Bool} {Rule : Type 0} {size pieces width : ℕ} {test : List ℕ → ℕ → Bool} {Keeps : ℕ → Type 0}
+  section : {count : ℕ} {breaks : Bool} {Rule : Type 0} {size pieces width : ℕ} {test : List ℕ → ℕ → Bool}
+      {Keeps : ℕ → Type 0}
       → Meant file count breaks Rule size pieces width test Keeps
       → (next : ℕ → ℕ → Plan) (later : List Line)
       → (Kept file count Rule size pieces width Keeps (count + 2) size → Answers (next (count + 2) size) later)
@@ -127,11 +134,13 @@ module _ (file : List ℕ) (room : ℕ) where
       subst (λ (s : Section). Answers (taken s next) (sectionRefusals file count Rule pieces width Keeps ++ later))
       (sym (in-order file count breaks size width test))
       (section-line next _ _ (omega arith, omega arith, omega arith)
-      (tells-below (length file) (count + 2) (λ l. omega (arith, l)) (λ l. omega (arith, l)) (omega arith)) (λ e. omega arith) (λ a.
+      (tells-below (length file) (count + 2) (λ l. omega (arith, l)) (λ l. omega (arith, l)) (omega arith))
+      (λ e. omega arith) (λ a.
       section-line next _ _ (omega arith, omega arith, omega arith)
       (tells-rule meant (omega arith)) (λ e. omega (arith, ltb-false (length file) (count + 2) a)) (λ b.
       section-line next _ _ (omega arith, omega arith, omega arith)
-      (tells-below (length file) (count + 2 + size) (λ l. omega (arith, l, meant .sized)) (λ l. omega (arith, l, meant .sized)) (omega arith)) (λ e. omega arith) (λ c.
+      (tells-below (length file) (count + 2 + size) (λ l. omega (arith, l, meant .sized))
+      (λ l. omega (arith, l, meant .sized)) (omega arith)) (λ e. omega arith) (λ c.
       section-line next _ _ (omega arith, omega arith, omega arith)
       (tells-first meant c) (first-near meant c) (λ d.
       then (kept meant (count + 2) size refl refl b c d))))))
@@ -208,7 +217,8 @@ module _ (file : List ℕ) (room : ℕ) where
 
   -- the number and the place are those of the first line that applies
   pub plan-given : (number place : ℕ)
-      → ((planOf file room .number ≡ number) × (planOf file room .place ≡ place)) ↔ Given number place (fileRefusals file room)
+      → ((planOf file room .number ≡ number) × (planOf file room .place ≡ place))
+      ↔ Given number place (fileRefusals file room)
   plan-given = answered .given
 
   pub planned : RuleByRule file room (planOf file room) ⊎ RefusedFile file (planOf file room)
@@ -254,10 +264,12 @@ module _ (file : List ℕ) (room : ℕ) where
 
       coins-same : planOf file room .coins ≡ plan .coins
       coins-same =
-          let rows : planOf file room .rounds * planOf file room .n ≡ plan .rounds * plan .n = ap₂ (λ (a b : ℕ). a * b) rounds-same n-same in
+          let rows : planOf file room .rounds * planOf file room .n ≡ plan .rounds * plan .n =
+          ap₂ (λ (a b : ℕ). a * b) rounds-same n-same in
           omega (arith, keeps .coins, stands .coins, n-same, rows)
 
-  pub accepted-exactly : (plan : Plan) → ((planOf file room .number ≡ 0) × (planOf file room ≡ plan)) ↔ KeepsEveryRule file room plan
+  pub accepted-exactly : (plan : Plan) → ((planOf file room .number ≡ 0) × (planOf file room ≡ plan))
+      ↔ KeepsEveryRule file room plan
   accepted-exactly plan = (there, back)
     where
       there : (planOf file room .number ≡ 0) × (planOf file room ≡ plan) → KeepsEveryRule file room plan
@@ -290,17 +302,42 @@ module _ (file : List ℕ) (room : ℕ) where
       → NoneApplies later → NoneApplies (sectionRefusals file count Rule pieces width Keeps ++ later)
   kept-section count Rule pieces width Keeps later rule inside each rest =
       let long : length file < count + 2 + pieces * width → ⊥ = λ l. omega arith in
-      record { none = inr (λ p x. omega (arith, x .0, inside), inr (λ p x. x .0 rule, inr (λ p x. long (x .0), inr (λ p x. x .3 (moved Keeps (each (x .0) (x .1)) (sym (x .2))), rest .none)))) }
+      record {
+        none = inr (
+          λ p x. omega (arith, x .0, inside),
+          inr (
+            λ p x. x .0 rule,
+            inr (
+              λ p x. long (x .0),
+              inr
+                  (λ p x. x .3 (moved Keeps (each (x .0) (x .1)) (sym (x .2))), rest .none),
+            ),
+          ),
+        );
+      }
 
   keeps-given : (plan : Plan) → RuleByRule file room plan → NoneApplies (fileRefusals file room)
   keeps-given plan keeps =
-      kept-section 0 _ n 1 (BitAt file) _ (moved Heads (keeps .heads) (sym same)) (omega (arith, ends)) (λ i h. moved (BitAt file) (keeps .proposal i (omega (arith, h, same))) (omega arith))
-      (kept-section second _ 1 1 (Need n file) _ (moved (λ p. countAt file p ≡ 1) (keeps .second) (omega (arith, same))) (omega (arith, ends)) need
-      (kept-section third (rounds ≤ 256) (rounds * n) 4 (LossRow n file) _ (omega (arith, keeps .rounds, rounds-same)) (omega (arith, ends))
-      (λ i h s m. let low = keeps .row i (omega (arith, h, rows)) s (moved (λ p. member s (fourBytesAt file p) ≡ true) m (omega (arith, same, keeps .losses))) in omega (arith, same, low))
-      (kept-section fourth _ (rounds * n) 1 (BitAt file) _ (moved (λ p. countAt file p ≡ plan .rounds * plan .n) (keeps .fourth) (omega (arith, same, rows)) ∙ sym rows) (omega (arith, ends))
+      kept-section 0 _ n 1 (BitAt file) _ (moved Heads (keeps .heads) (sym same)) (omega (arith, ends))
+      (λ i h. moved (BitAt file) (keeps .proposal i (omega (arith, h, same))) (omega arith))
+      (kept-section second _ 1 1 (Need n file) _
+      (moved (λ p. countAt file p ≡ 1) (keeps .second) (omega (arith, same))) (omega (arith, ends)) need
+      (kept-section third (rounds ≤ 256) (rounds * n) 4 (LossRow n file) _ (omega (arith, keeps .rounds, rounds-same))
+      (omega (arith, ends))
+      (λ i h s m. let low = keeps .row i (omega (arith, h, rows)) s
+      (moved (λ p. member s (fourBytesAt file p) ≡ true) m (omega (arith, same, keeps .losses))) in omega
+      (arith, same, low))
+      (kept-section fourth _ (rounds * n) 1 (BitAt file) _
+      (moved (λ p. countAt file p ≡ plan .rounds * plan .n) (keeps .fourth) (omega (arith, same, rows)) ∙ sym rows)
+      (omega (arith, ends))
       (λ i h. moved (BitAt file) (keeps .coin i (omega (arith, h, rows))) (omega (arith, same, keeps .coins, rows)))
-      (record { none = inr (λ p x. omega (arith, x .0, ends), inr (λ p x. omega (arith, x .0, keeps .enough, same), (refl, refl))) }))))
+      (record {
+        none = inr (
+          λ p x. omega (arith, x .0, ends),
+          inr
+              (λ p x. omega (arith, x .0, keeps .enough, same), (refl, refl)),
+        );
+      }))))
     where
       same : n ≡ plan .n
       same = keeps .first
@@ -316,7 +353,8 @@ module _ (file : List ℕ) (room : ℕ) where
 
       need : (i : ℕ) → i < 1 → Need n file (second + 2 + i * 1)
       need i h =
-          let k : getD file (second + 2 + i * 1) 0 ≡ plan .needed = moved (λ p. getD file p 0 ≡ plan .needed) (keeps .needed) (omega (arith, same, h)) in
+          let k : getD file (second + 2 + i * 1) 0 ≡ plan .needed =
+          moved (λ p. getD file p 0 ≡ plan .needed) (keeps .needed) (omega (arith, same, h)) in
           (omega (arith, k, keeps .moreThanHalf, same), omega (arith, k, keeps .atMost, same))
 
   pub no-line-applies : (plan : Plan) → RuleByRule file room plan → planOf file room .number ≡ 0

@@ -1,6 +1,6 @@
--- The bench. Read this page first: each theorem below answers the sentence above it, over the definitions that the promises
--- of crate `run` cite. Specs: Refusal and Rules for what a file must be, Section and Plan for how it is read, Table and Vote
--- for the run, Figures and Report for what is printed. TheBenchApplied applies each of them.
+-- The bench. Read this page first: each theorem below answers the sentence above it, over the definitions that the
+-- promises of crate `run` cite. Specs: Refusal and Rules for what a file must be, Section and Plan for how it is read,
+-- Table and Vote for the run, Figures and Report for what is printed. TheBenchApplied applies each of them.
 use Prim.Native.Nat.{ℕ, _+_, _*_, _≤_, _<_, _^_}
 use mathlib.Core.Path.{_≡_}
 use mathlib.Core.List.{List}
@@ -26,17 +26,19 @@ use Rattle.file.specs.Benched.{emptyTable, benchedOf}
 use Rattle.file.specs.Report.{reportOf, SameState}
 use Rattle.file.specs.PrintedCase.{printedCase, printed}
 use Rattle.file.proofs.LosingNothing.{LosesNothing}
-use Rattle.file.proofs.Accepting.{refused-by-first, accepted-exactly-when, refused-by-12-to-16, never-16, at-most-41001, largest-accepted, refused-changes-nothing}
+use Rattle.file.proofs.Accepting.{refused-by-first, accepted-exactly-when, refused-by-12-to-16, never-16}
+use Rattle.file.proofs.Accepting.{at-most-41001, largest-accepted, refused-changes-nothing}
 use Rattle.file.proofs.Placing.{after-length, after-drop}
-use Rattle.file.proofs.TheTable.{table-run, table-heads, table-ticks, table-agrees, table-proposed, table-decides, figure-counts, good-counts}
+use Rattle.file.proofs.TheTable.{table-run, table-heads, table-ticks, table-agrees, table-proposed}
+use Rattle.file.proofs.TheTable.{table-decides, figure-counts, good-counts}
 use Rattle.file.proofs.FirstBytes.{the-first-bytes-decide}
 use Rattle.file.proofs.EqualReports.{equal-reports}
 use Rattle.file.proofs.PrintedCase.{it-prints}
 
 -- ---- Demand 1
 
--- "Bad input is refused by the first number that applies": document 01's numbers 12 to 16 and their places, line by line
--- (specs/Refusal)
+-- "Bad input is refused by the first number that applies": document 01's numbers 12 to 16 and their places, line by
+-- line (specs/Refusal)
 pub a-file-is-refused-by-the-first-number-that-applies : (file : List ℕ) (table : List Head) (number place : ℕ)
     → ((outcomeOf file table .number ≡ number) × (outcomeOf file table .place ≡ place))
     ↔ Given number place (fileRefusals file (length table))
@@ -125,8 +127,8 @@ pub each-decision-in-the-table-was-proposed : (file : List ℕ) (table : List He
     × (headOf (tableAfter file table) s .decision ≡ decisionFor (valueOf (getD file (2 + t) 0)))
 each-decision-in-the-table-was-proposed = table-proposed
 
--- "If over half propose one bit and the first ticks are two of document 01's rounds that lose nothing, every head decides
--- that bit in them": what they decide is there after the whole file
+-- "If over half propose one bit and the first ticks are two of document 01's rounds that lose nothing, every head
+-- decides that bit in them": what they decide is there after the whole file
 pub a-file-whose-first-two-rounds-lose-nothing-decides : (file : List ℕ) (table : List Head)
     → Accepts file table
     → (bit : ℕ) → bit < 2
@@ -153,7 +155,8 @@ pub the-good-rounds-lose-at-most-the-bound : (file : List ℕ) (table : List Hea
     → Accepts file table
     → let plan = planFor file table in
     outcomeOf file table .good
-    ≡ count (plan .rounds) (λ r. leb (lostTo (plan .n) (channelFor file table r) (plan .n)) (boundOf (plan .n) (plan .needed)))
+    ≡ count (plan .rounds) (λ r. leb (lostTo (plan .n) (channelFor file table r) (plan .n))
+    (boundOf (plan .n) (plan .needed)))
 the-good-rounds-lose-at-most-the-bound = good-counts
 
 -- the printed bytes determine what is printed: number and place, n, need, bound, rounds, good, decided, and each head's
@@ -163,7 +166,8 @@ pub equal-reports-come-from-equal-figures : (file other : List ℕ)
     → length other < 2 ^ 64
     → reportOf file ≡ reportOf other
     → (benchedOf file .outcome ≡ benchedOf other .outcome)
-    × ((s : ℕ) → s < benchedOf file .outcome .n → SameState (headOf (benchedOf file .heads) s) (headOf (benchedOf other .heads) s))
+    × ((s : ℕ) → s < benchedOf file .outcome .n
+    → SameState (headOf (benchedOf file .heads) s) (headOf (benchedOf other .heads) s))
 equal-reports-come-from-equal-figures = equal-reports
 
 -- "reads standard input": the first 41,002 bytes decide

@@ -1,5 +1,5 @@
--- Every theorem of TheBench, applied by its name to a case that needs all of it, its hypotheses met. So a statement that says
--- less than its sentence is refused here.
+-- Every theorem of TheBench, applied by its name to a case that needs all of it, its hypotheses met. So a statement
+-- that says less than its sentence is refused here.
 use Prim.Native.Nat.{ℕ, zero, suc, _+_, _*_, _≤_, _<_}
 use mathlib.Core.Path.{_≡_, refl, sym, ap, _∙_}
 use mathlib.Core.List.{List, [], _∷_, _++_}
@@ -33,14 +33,20 @@ use Rattle.file.proofs.Computing.{reporting}
 use Rattle.file.proofs.NeverSixteen.{given-applies}
 use Rattle.file.proofs.LosingNothing.{LosesNothing}
 use Rattle.file.proofs.AFewReports.{loss-and-coin, two-heads, others, lent}
-use Rattle.file.proofs.TheBench.{a-file-is-refused-by-the-first-number-that-applies, a-file-is-accepted-exactly-when-its-plan-keeps-every-rule}
-use Rattle.file.proofs.TheBench.{a-file-is-refused-by-12-to-16, a-report-never-gives-16, an-accepted-file-has-at-most-41001-bytes}
-use Rattle.file.proofs.TheBench.{the-largest-file-is-accepted, a-refused-file-changes-nothing, the-others-are-untouched}
+use Rattle.file.proofs.TheBench.{a-file-is-refused-by-the-first-number-that-applies}
+use Rattle.file.proofs.TheBench.{a-file-is-accepted-exactly-when-its-plan-keeps-every-rule}
+use Rattle.file.proofs.TheBench.{a-file-is-refused-by-12-to-16, a-report-never-gives-16}
+use Rattle.file.proofs.TheBench.{an-accepted-file-has-at-most-41001-bytes}
+use Rattle.file.proofs.TheBench.{the-largest-file-is-accepted, a-refused-file-changes-nothing}
+use Rattle.file.proofs.TheBench.{the-others-are-untouched}
 use Rattle.file.proofs.TheBench.{the-table-keeps-its-length, a-bench-run-is-a-run, the-table-holds-the-heads}
 use Rattle.file.proofs.TheBench.{no-tick-of-the-bench-is-refused, no-two-decisions-in-the-table-differ}
-use Rattle.file.proofs.TheBench.{each-decision-in-the-table-was-proposed, a-file-whose-first-two-rounds-lose-nothing-decides}
-use Rattle.file.proofs.TheBench.{the-figure-counts-what-the-channel-loses, the-good-rounds-lose-at-most-the-bound}
-use Rattle.file.proofs.TheBench.{equal-reports-come-from-equal-figures, the-first-41002-bytes-decide, the-printed-case-prints}
+use Rattle.file.proofs.TheBench.{each-decision-in-the-table-was-proposed}
+use Rattle.file.proofs.TheBench.{a-file-whose-first-two-rounds-lose-nothing-decides}
+use Rattle.file.proofs.TheBench.{the-figure-counts-what-the-channel-loses}
+use Rattle.file.proofs.TheBench.{the-good-rounds-lose-at-most-the-bound}
+use Rattle.file.proofs.TheBench.{equal-reports-come-from-equal-figures, the-first-41002-bytes-decide}
+use Rattle.file.proofs.TheBench.{the-printed-case-prints}
 
 -- ---- Demand 1
 
@@ -55,7 +61,8 @@ pub sixteen-says-too-short : (file : List ℕ) (table : List Head)
 sixteen-says-too-short file table sixteen =
     let place = outcomeOf file table .place in
     let given = a-file-is-refused-by-the-first-number-that-applies file table 16 place .0 (sixteen, refl) in
-    elim (given-applies 16 place (fileRefusals file (length table)) (λ e. omega (arith, e)) given) [ inl x ↦ x | inr none ↦ absurd none ]
+    elim (given-applies 16 place (fileRefusals file (length table)) (λ e. omega (arith, e)) given)
+    [ inl x ↦ x | inr none ↦ absurd none ]
 
 -- a file has one plan that keeps every rule, and the bench runs it
 pub one-plan-keeps-every-rule : (file : List ℕ) (table : List Head) (plan other : Plan)
@@ -72,7 +79,8 @@ pub the-coins-start-there : (file : List ℕ) (table : List Head)
     → Accepts file table
     → let plan = planFor file table in plan .coins ≡ 9 + plan .n + plan .rounds * plan .n * 4
 the-coins-start-there file table accepts =
-    a-file-is-accepted-exactly-when-its-plan-keeps-every-rule file table (planFor file table) .0 (accepts, refl) .1 .coins
+    a-file-is-accepted-exactly-when-its-plan-keeps-every-rule file table (planFor file table) .0
+    (accepts, refl) .1 .coins
 
 -- what a report refuses, it refuses by 12 to 15
 pub a-report-refuses-by-12-to-15 : (file : List ℕ)
@@ -119,7 +127,8 @@ pub the-printed-case-is-a-run : Run (voteFor printedCase emptyTable) (eventsFor 
 the-printed-case-is-a-run = a-bench-run-is-a-run printedCase emptyTable printed-accepted
 
 -- its last head
-pub head-2-is-the-votes : headOf (tableAfter printedCase emptyTable) 2 ≡ headIn (voteFor printedCase emptyTable) (eventsFor printedCase emptyTable) 2
+pub head-2-is-the-votes : headOf (tableAfter printedCase emptyTable) 2
+    ≡ headIn (voteFor printedCase emptyTable) (eventsFor printedCase emptyTable) 2
 unfolding reporting
 head-2-is-the-votes = the-table-holds-the-heads printedCase emptyTable printed-accepted 2 (lit< tt)
 
@@ -129,7 +138,8 @@ pub the-last-tick-is-accepted : let plan = planFor printedCase emptyTable in
     let ballots = receivedIn before (fourBytesAt (rowsIn printedCase plan 1) (2 * 4)) (plan .n) in
     tickNumber (headOf before 2) ballots (getD (coinsIn printedCase plan 1) 2 0) ≡ 0
 unfolding reporting
-the-last-tick-is-accepted = no-tick-of-the-bench-is-refused printedCase emptyTable printed-accepted 1 2 (lit< tt) (lit< tt)
+the-last-tick-is-accepted =
+    no-tick-of-the-bench-is-refused printedCase emptyTable printed-accepted 1 2 (lit< tt) (lit< tt)
 
 -- head 0, who proposed 1, and head 2, who proposed 0, have written decisions
 written-0 : WrittenDecision (headOf (tableAfter printedCase emptyTable) 0)
@@ -140,16 +150,19 @@ written-2 : WrittenDecision (headOf (tableAfter printedCase emptyTable) 2)
 unfolding reporting
 written-2 e = let z : _≡_ {A = ℕ} 0 1 = cc in omega arith
 
-pub heads-0-and-2-agree : headOf (tableAfter printedCase emptyTable) 0 .decision ≡ headOf (tableAfter printedCase emptyTable) 2 .decision
+pub heads-0-and-2-agree : headOf (tableAfter printedCase emptyTable) 0 .decision
+    ≡ headOf (tableAfter printedCase emptyTable) 2 .decision
 unfolding reporting
 heads-0-and-2-agree =
-    no-two-decisions-in-the-table-differ printedCase emptyTable printed-accepted 0 2 (lit< tt) (lit< tt) written-0 written-2
+    no-two-decisions-in-the-table-differ printedCase emptyTable printed-accepted 0 2 (lit< tt)
+    (lit< tt) written-0 written-2
 
 -- what head 2 decides some head below 3 proposed
 pub somebody-proposed-it : (t : ℕ) × (t < 3)
     × (headOf (tableAfter printedCase emptyTable) 2 .decision ≡ decisionFor (valueOf (getD printedCase (2 + t) 0)))
 unfolding reporting
-somebody-proposed-it = each-decision-in-the-table-was-proposed printedCase emptyTable printed-accepted 2 (lit< tt) written-2
+somebody-proposed-it =
+    each-decision-in-the-table-was-proposed printedCase emptyTable printed-accepted 2 (lit< tt) written-2
 
 -- three heads, two of them for 1; two rounds that lose nothing, and a third that loses everything
 abbrev then-all-is-lost : List ℕ
@@ -184,7 +197,8 @@ second-loses-nothing (suc (suc (suc k))) sender r h = absurd (omega (arith, r))
 pub head-2-decides-1 : headOf (tableAfter then-all-is-lost emptyTable) 2 .decision ≡ ForOne
 unfolding reporting
 head-2-decides-1 =
-    a-file-whose-first-two-rounds-lose-nothing-decides then-all-is-lost emptyTable then-all-is-lost-accepted 1 (lit< tt) (lit< tt) (lit≤ tt)
+    a-file-whose-first-two-rounds-lose-nothing-decides then-all-is-lost emptyTable then-all-is-lost-accepted 1
+    (lit< tt) (lit< tt) (lit≤ tt)
     first-loses-nothing second-loses-nothing 2 (lit< tt)
 
 -- ---- What is printed
@@ -196,7 +210,8 @@ loss-and-coin-accepted = refl
 -- rows 4, 2 and 4 lose a ballot each
 pub three-are-lost : lostTo 3 (channelFor loss-and-coin emptyTable 0) 3 ≡ 3
 unfolding reporting
-three-are-lost = sym (the-figure-counts-what-the-channel-loses loss-and-coin emptyTable loss-and-coin-accepted 0 (lit< tt))
+three-are-lost =
+    sym (the-figure-counts-what-the-channel-loses loss-and-coin emptyTable loss-and-coin-accepted 0 (lit< tt))
 
 -- of its three rounds one is good
 pub one-round-is-good : count 3 (λ r. leb (lostTo 3 (channelFor loss-and-coin emptyTable r) 3) 2) ≡ 1

@@ -40,7 +40,8 @@ module _ (file : List ℕ) (table : List Head) (accepts : Accepts file table) wh
   pub table-run : Run (voteFor file table) (eventsFor file table)
   table-run = rounds-are-run file plan table keeps (plan .rounds) (omega arith)
 
-  pub table-heads : (s : ℕ) → s < plan .n → headOf (tableAfter file table) s ≡ headIn (voteFor file table) (eventsFor file table) s
+  pub table-heads : (s : ℕ) → s < plan .n → headOf (tableAfter file table) s
+      ≡ headIn (voteFor file table) (eventsFor file table) s
   unfolding tableAfter
   table-heads s h = heads-are file plan table keeps (plan .rounds) s h
 
@@ -62,13 +63,15 @@ module _ (file : List ℕ) (table : List Head) (accepts : Accepts file table) wh
       let a = table-heads s hs in
       let b = table-heads t ht in
       ap (λ (h : Head). h .decision) a
-      ∙ no-two-decisions-differ (voteFor file table) (eventsFor file table) table-run s t hs ht (rw a at ws) (rw b at wt)
+      ∙ no-two-decisions-differ (voteFor file table) (eventsFor file table) table-run s t hs ht (rw a at ws)
+      (rw b at wt)
       ∙ sym (ap (λ (h : Head). h .decision) b)
 
   pub table-proposed : (s : ℕ)
       → s < plan .n
       → WrittenDecision (headOf (tableAfter file table) s)
-      → (t : ℕ) × (t < plan .n) × (headOf (tableAfter file table) s .decision ≡ decisionFor (valueOf (getD file (2 + t) 0)))
+      → (t : ℕ) × (t < plan .n) × (headOf (tableAfter file table) s .decision
+      ≡ decisionFor (valueOf (getD file (2 + t) 0)))
   table-proposed s hs ws =
       let a = table-heads s hs in
       let r = each-was-proposed (voteFor file table) (eventsFor file table) table-run s hs (rw a at ws) in
@@ -83,7 +86,8 @@ module _ (file : List ℕ) (table : List Head) (accepts : Accepts file table) wh
       → (s : ℕ) → s < plan .n
       → headOf (tableAfter file table) s .decision ≡ decisionFor (valueOf bit)
   table-decides bit low most two first second s h =
-      ap (λ (k : Head). k .decision) (table-heads s h) ∙ rounds-decide file plan table keeps bit low most two first second s h
+      ap (λ (k : Head). k .decision) (table-heads s h)
+      ∙ rounds-decide file plan table keeps bit low most two first second s h
 
   pub figure-counts : (r : ℕ)
       → r < plan .rounds
@@ -91,6 +95,7 @@ module _ (file : List ℕ) (table : List Head) (accepts : Accepts file table) wh
   figure-counts = rows-count-what-is-lost file plan (length table) keeps
 
   pub good-counts : outcomeOf file table .good
-      ≡ count (plan .rounds) (λ r. leb (lostTo (plan .n) (channelFor file table r) (plan .n)) (boundOf (plan .n) (plan .needed)))
+      ≡ count (plan .rounds) (λ r. leb (lostTo (plan .n) (channelFor file table r) (plan .n))
+      (boundOf (plan .n) (plan .needed)))
   unfolding outcomeOf
   good-counts = good-is file plan (length table) keeps

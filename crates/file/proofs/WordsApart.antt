@@ -93,17 +93,23 @@ decision-back Unwritten = refl
 pub value-apart : (c : ℕ) (v w : Value) {more less : List ℕ} → c < 48
     → valueWord v ++ (c ∷ more) ≡ valueWord w ++ (c ∷ less) → (v ≡ w) × (more ≡ less)
 value-apart c v w low e =
-    let r = apart c (valueWord v) (valueWord w) (written-lacks c (valueWord v) low (value-written v)) (written-lacks c (valueWord w) low (value-written w)) e in
+    let r =
+    apart c (valueWord v) (valueWord w) (written-lacks c (valueWord v) low (value-written v))
+    (written-lacks c (valueWord w) low (value-written w)) e in
     (sym (value-back v) ∙ ap valueFrom (r .0) ∙ value-back w, r .1)
 
 pub status-apart : (c : ℕ) (s t : Status) {more less : List ℕ} → c < 48
     → statusWord s ++ (c ∷ more) ≡ statusWord t ++ (c ∷ less) → (s ≡ t) × (more ≡ less)
 status-apart c s t low e =
-    let r = apart c (statusWord s) (statusWord t) (written-lacks c (statusWord s) low (status-written s)) (written-lacks c (statusWord t) low (status-written t)) e in
+    let r =
+    apart c (statusWord s) (statusWord t) (written-lacks c (statusWord s) low (status-written s))
+    (written-lacks c (statusWord t) low (status-written t)) e in
     (sym (status-back s) ∙ ap statusFrom (r .0) ∙ status-back t, r .1)
 
 pub decision-apart : (c : ℕ) (d f : Decision) {more less : List ℕ} → c < 48
     → decisionWord d ++ (c ∷ more) ≡ decisionWord f ++ (c ∷ less) → (d ≡ f) × (more ≡ less)
 decision-apart c d f low e =
-    let r = apart c (decisionWord d) (decisionWord f) (written-lacks c (decisionWord d) low (decision-written d)) (written-lacks c (decisionWord f) low (decision-written f)) e in
+    let r =
+    apart c (decisionWord d) (decisionWord f) (written-lacks c (decisionWord d) low (decision-written d))
+    (written-lacks c (decisionWord f) low (decision-written f)) e in
     (sym (decision-back d) ∙ ap decisionFrom (r .0) ∙ decision-back f, r .1)

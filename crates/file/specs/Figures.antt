@@ -24,7 +24,8 @@ boundOf n k = (n + 1) / 2 * (n - k) + k - 2
 
 -- "A round is good if its lost ballots .. are at most" the bound: how many of the first r rounds are
 abbrev pub goodIn : List ℕ → Plan → ℕ → ℕ
-goodIn file plan rounds = count rounds (λ r. leb (lostIn (rowsIn file plan r) (plan .n)) (boundOf (plan .n) (plan .needed)))
+goodIn file plan rounds =
+    count rounds (λ r. leb (lostIn (rowsIn file plan r) (plan .n)) (boundOf (plan .n) (plan .needed)))
 
 -- "heads whose status is decided"
 abbrev pub decidedIn : List Head → ℕ → ℕ

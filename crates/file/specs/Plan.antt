@@ -22,7 +22,8 @@ taken (Refused number place) next = refusedPlan number place
 
 -- "15, the first extra byte; 16, place 0"; "Number 16 is tested after the whole file."
 unfoldable pub closedOf : ℕ → ℕ → ℕ → Plan → Plan
-closedOf size room end plan = cond (ltb end size) (refusedPlan 15 end) (cond (ltb room (plan .n)) (refusedPlan 16 0) plan)
+closedOf size room end plan =
+    cond (ltb end size) (refusedPlan 15 end) (cond (ltb room (plan .n)) (refusedPlan 16 0) plan)
 
 -- "4. Count n times rounds, then that many coins", at a place, when the other sections are known
 unfoldable pub afterLosses : List ℕ → ℕ → ℕ → ℕ → ℕ → ℕ → ℕ → Plan

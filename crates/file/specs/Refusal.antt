@@ -1,4 +1,5 @@
--- The refusals of a run file as propositions: document 01's numbers 12 to 16, "given exactly when", each with its place.
+-- The refusals of a run file as propositions: document 01's numbers 12 to 16, "given exactly when", each with its
+-- place.
 use Prim.Native.Nat.{ℕ, _+_, _*_, _≤_, _<_}
 use mathlib.Core.Path.{_≡_}
 use mathlib.Core.List.{List, [], _∷_, _++_}
@@ -15,11 +16,12 @@ infix 40 _exactly-when_
 pub data Line : Type 1 where
   _exactly-when_ : ℕ → (ℕ → Type 0) → Line
 
--- "The first that applies, in this order": number's line applies at the place, and no earlier line applies anywhere; "0 is
--- accepted", where none does
+-- "The first that applies, in this order": number's line applies at the place, and no earlier line applies anywhere; "0
+-- is accepted", where none does
 abbrev pub Given : ℕ → ℕ → List Line → Type 0
 Given number place [] = (number ≡ 0) × (place ≡ 0)
-Given number place ((k exactly-when Applies) ∷ later) = (Applies place × (number ≡ k)) ⊎ (((p : ℕ) → Applies p → ⊥) × Given number place later)
+Given number place ((k exactly-when Applies) ∷ later) =
+    (Applies place × (number ≡ k)) ⊎ (((p : ℕ) → Applies p → ⊥) × Given number place later)
 
 -- P holds, and the place is this one
 abbrev pub At : ℕ → Type 0 → ℕ → Type 0
@@ -28,9 +30,11 @@ At this P place = P × (place ≡ this)
 -- of so many pieces from a start on, each of so many bytes, the first that does not keep its rule stands at the place
 abbrev pub FirstThatBreaks : ℕ → ℕ → ℕ → (ℕ → Type 0) → ℕ → Type 0
 FirstThatBreaks start pieces width Keeps place =
-    (i : ℕ) × (i < pieces) × (place ≡ start + i * width) × (Keeps place → ⊥) × ((j : ℕ) → j < i → Keeps (start + j * width))
+    (i : ℕ) × (i < pieces) × (place ≡ start + i * width) × (Keeps place → ⊥)
+    × ((j : ℕ) → j < i → Keeps (start + j * width))
 
--- a section: where its count stands, the count's rule, how many pieces of how many bytes follow, and the rule of a piece
+-- a section: where its count stands, the count's rule, how many pieces of how many bytes follow, and the rule of a
+-- piece
 abbrev pub sectionRefusals : List ℕ → ℕ → Type 0 → ℕ → ℕ → (ℕ → Type 0) → List Line
 sectionRefusals file count Rule pieces width Keeps =
     -- "In each section the count is read": 12, "ends inside a count"; "12, the file's length"
@@ -55,8 +59,8 @@ Need n file place = (n < getD file place 0 * 2) × (getD file place 0 ≤ n)
 abbrev pub LossRow : ℕ → List ℕ → ℕ → Type 0
 LossRow n file place = (s : ℕ) → member s (fourBytesAt file place) ≡ true → s < n
 
--- "Four sections in this order, each after a two-byte count", for a table with room for so many heads. Where the file is too
--- short for a count, the count's 12 comes before all that is said of it.
+-- "Four sections in this order, each after a two-byte count", for a table with room for so many heads. Where the file
+-- is too short for a count, the count's 12 comes before all that is said of it.
 abbrev pub fileRefusals : List ℕ → ℕ → List Line
 fileRefusals file room =
     let n = countAt file 0 in

@@ -1,5 +1,5 @@
--- The bench in a lent table of heads: the starts, the rounds, and what the table holds after a run. Document 01, 'Run file
--- and bench'.
+-- The bench in a lent table of heads: the starts, the rounds, and what the table holds after a run. Document 01, 'Run
+-- file and bench'.
 use Prim.Native.Nat.{ℕ, zero, suc, _+_, _*_}
 use mathlib.Core.List.{List, [], _++_}
 use mathlib.Core.Bool.{cond}
@@ -34,7 +34,8 @@ rowsIn file plan r = take (plan .n * 4) (drop (plan .losses + r * plan .n * 4) f
 abbrev pub coinsIn : List ℕ → Plan → ℕ → List ℕ
 coinsIn file plan r = take (plan .n) (drop (plan .coins + r * plan .n) file)
 
--- "Bit s set: the ballot of head s is lost to it.": the ballots of heads 0 to k - 1 that are not lost, "in sender order"
+-- "Bit s set: the ballot of head s is lost to it.": the ballots of heads 0 to k - 1 that are not lost, "in sender
+-- order"
 abbrev pub receivedIn : List Head → ℕ → ℕ → List ℕ
 receivedIn table lost zero = []
 receivedIn table lost (suc k) = receivedIn table lost k ++ cond (member k lost) [] (bytesOf (ballotOf (headOf table k)))
@@ -52,14 +53,15 @@ roundIn n rows coins table = placed n (tickedIn n rows coins table) table
 -- the table after so many rounds
 unfoldable pub roundsIn : List ℕ → Plan → ℕ → List Head → List Head
 roundsIn file plan zero table = table
-roundsIn file plan (suc r) table = roundIn (plan .n) (rowsIn file plan r) (coinsIn file plan r) (roundsIn file plan r table)
+roundsIn file plan (suc r) table =
+    roundIn (plan .n) (rowsIn file plan r) (coinsIn file plan r) (roundsIn file plan r table)
 
 -- the table with the n heads as they start
 abbrev pub startsIn : List ℕ → ℕ → List Head → List Head
 startsIn file n table = placed n (startIn file n) table
 
--- "after a run the first n are the heads and the others are untouched. Refused: nothing in the table changes", for then the
--- plan has no heads and no rounds.
+-- "after a run the first n are the heads and the others are untouched. Refused: nothing in the table changes", for then
+-- the plan has no heads and no rounds.
 unfoldable pub tableAfter : List ℕ → List Head → List Head
 tableAfter file table =
     let plan = planFor file table in
