@@ -1,15 +1,17 @@
 -- Every theorem of TheBench, applied by its name to a case that needs all of it, its hypotheses met. So a statement
 -- that says less than its sentence is refused here.
-use Prim.Native.Nat.{ℕ, zero, suc, _+_, _*_, _≤_, _<_}
-use mathlib.Core.Path.{_≡_, refl, sym, ap, _∙_}
+use Prim.Native.Nat.{ℕ, zero, suc, _+_, _*_, _≤_, _<_, _^_}
+use mathlib.Core.Path.{_≡_, refl, sym, ap, subst, _∙_}
 use mathlib.Core.List.{List, [], _∷_, _++_}
+use mathlib.Core.Bool.{false}
 use mathlib.Core.Logic.{inl, inr}
 use native.Mathlib.Omega.{arith}
 use lib.ListN.{length, getD, take, drop, replicate}
-use lib.Dec.{leb, lit<, lit≤}
-use Rattle.rules.specs.declared.Decision.the-variants.{Zero as ForZero, One as ForOne}
+use lib.Dec.{leb, eqb, lit<, lit≤}
+use Rattle.rules.specs.declared.Decision.the-variants.{One as ForOne, Unwritten}
 use Rattle.rules.specs.declared.Head.{Head}
 use Rattle.rules.specs.Below.{count}
+use Rattle.rules.specs.Heard.{member}
 use Rattle.rules.specs.Ballot.{valueOf}
 use Rattle.rules.specs.Head.{decisionFor}
 use Rattle.rules.specs.Tick.{tickNumber}
@@ -25,14 +27,14 @@ use Rattle.file.specs.Refusal.{fileRefusals}
 use Rattle.file.specs.Plan.{planFor}
 use Rattle.file.specs.Table.{headOf, startsIn, rowsIn, coinsIn, receivedIn, roundsIn, tableAfter}
 use Rattle.file.specs.Vote.{voteFor, channelFor, eventsFor, lostTo}
-use Rattle.file.specs.Figures.{outcomeOf, Accepts}
+use Rattle.file.specs.Figures.{lostIn, boundOf, goodIn, outcomeOf, Accepts}
 use Rattle.file.specs.Benched.{emptyTable, benchedOf}
 use Rattle.file.specs.Report.{reportOf}
 use Rattle.file.specs.PrintedCase.{printedCase}
 use Rattle.file.proofs.Computing.{reporting}
-use Rattle.file.proofs.NeverSixteen.{given-applies}
-use Rattle.file.proofs.LosingNothing.{LosesNothing}
-use Rattle.file.proofs.AFewReports.{loss-and-coin, two-heads, others, lent}
+use Rattle.file.proofs.reading.NeverSixteen.{given-applies}
+use Rattle.file.proofs.running.LosingNothing.{LosesNothing}
+use Rattle.file.proofs.AFewReports.{two-heads, others, lent}
 use Rattle.file.proofs.TheBench.{a-file-is-refused-by-the-first-number-that-applies}
 use Rattle.file.proofs.TheBench.{a-file-is-accepted-exactly-when-its-plan-keeps-every-rule}
 use Rattle.file.proofs.TheBench.{a-file-is-refused-by-12-to-16, a-report-never-gives-16}
@@ -111,60 +113,17 @@ an-empty-file-changes-nothing table = a-refused-file-changes-nothing [] table (a
 
 -- two heads in a table of four
 pub the-third-and-fourth-are-untouched : drop 2 (tableAfter two-heads lent) ≡ others
-unfolding reporting
-the-third-and-fourth-are-untouched = the-others-are-untouched two-heads lent
+the-third-and-fourth-are-untouched =
+    subst (λ (n : ℕ). drop n (tableAfter two-heads lent) ≡ drop n lent) two (the-others-are-untouched two-heads lent)
+  where
+    two : planFor two-heads lent .n ≡ 2
+    two = unfold reporting in refl
 
 pub the-table-still-has-four : length (tableAfter two-heads lent) ≡ 4
 the-table-still-has-four = the-table-keeps-its-length two-heads lent
 
--- ---- Demand 3, at the printed case
+-- ---- Demand 3, at three heads, two of them for 1; two rounds that lose nothing, and a third that loses everything
 
-printed-accepted : Accepts printedCase emptyTable
-unfolding reporting
-printed-accepted = refl
-
-pub the-printed-case-is-a-run : Run (voteFor printedCase emptyTable) (eventsFor printedCase emptyTable)
-the-printed-case-is-a-run = a-bench-run-is-a-run printedCase emptyTable printed-accepted
-
--- its last head
-pub head-2-is-the-votes : headOf (tableAfter printedCase emptyTable) 2
-    ≡ headIn (voteFor printedCase emptyTable) (eventsFor printedCase emptyTable) 2
-unfolding reporting
-head-2-is-the-votes = the-table-holds-the-heads printedCase emptyTable printed-accepted 2 (lit< tt)
-
--- its last tick
-pub the-last-tick-is-accepted : let plan = planFor printedCase emptyTable in
-    let before = roundsIn printedCase plan 1 (startsIn printedCase (plan .n) emptyTable) in
-    let ballots = receivedIn before (fourBytesAt (rowsIn printedCase plan 1) (2 * 4)) (plan .n) in
-    tickNumber (headOf before 2) ballots (getD (coinsIn printedCase plan 1) 2 0) ≡ 0
-unfolding reporting
-the-last-tick-is-accepted =
-    no-tick-of-the-bench-is-refused printedCase emptyTable printed-accepted 1 2 (lit< tt) (lit< tt)
-
--- head 0, who proposed 1, and head 2, who proposed 0, have written decisions
-written-0 : WrittenDecision (headOf (tableAfter printedCase emptyTable) 0)
-unfolding reporting
-written-0 e = let z : _≡_ {A = ℕ} 0 1 = cc in omega arith
-
-written-2 : WrittenDecision (headOf (tableAfter printedCase emptyTable) 2)
-unfolding reporting
-written-2 e = let z : _≡_ {A = ℕ} 0 1 = cc in omega arith
-
-pub heads-0-and-2-agree : headOf (tableAfter printedCase emptyTable) 0 .decision
-    ≡ headOf (tableAfter printedCase emptyTable) 2 .decision
-unfolding reporting
-heads-0-and-2-agree =
-    no-two-decisions-in-the-table-differ printedCase emptyTable printed-accepted 0 2 (lit< tt)
-    (lit< tt) written-0 written-2
-
--- what head 2 decides some head below 3 proposed
-pub somebody-proposed-it : (t : ℕ) × (t < 3)
-    × (headOf (tableAfter printedCase emptyTable) 2 .decision ≡ decisionFor (valueOf (getD printedCase (2 + t) 0)))
-unfolding reporting
-somebody-proposed-it =
-    each-decision-in-the-table-was-proposed printedCase emptyTable printed-accepted 2 (lit< tt) written-2
-
--- three heads, two of them for 1; two rounds that lose nothing, and a third that loses everything
 abbrev then-all-is-lost : List ℕ
 then-all-is-lost =
     (0 ∷ 3 ∷ 1 ∷ 1 ∷ 0 ∷ [])
@@ -175,48 +134,112 @@ then-all-is-lost =
     ++ (0 ∷ 9 ∷ [])
     ++ replicate 9 0
 
-then-all-is-lost-accepted : Accepts then-all-is-lost emptyTable
+abbrev its-plan : Plan
+its-plan = record { number = 0; place = 0; n = 3; needed = 2; rounds = 3; losses = 10; coins = 48 }
+
+plan-is : planFor then-all-is-lost emptyTable ≡ its-plan
 unfolding reporting
-then-all-is-lost-accepted = refl
+plan-is = refl
+
+accepts : Accepts then-all-is-lost emptyTable
+unfolding outcomeOf
+accepts = ap (λ (p : Plan). p .number) plan-is
+
+three-heads : planFor then-all-is-lost emptyTable .n ≡ 3
+three-heads = ap (λ (p : Plan). p .n) plan-is
+
+three-rounds : planFor then-all-is-lost emptyTable .rounds ≡ 3
+three-rounds = ap (λ (p : Plan). p .rounds) plan-is
+
+pub these-rounds-are-a-run : Run (voteFor then-all-is-lost emptyTable) (eventsFor then-all-is-lost emptyTable)
+these-rounds-are-a-run = a-bench-run-is-a-run then-all-is-lost emptyTable accepts
+
+-- its last head
+pub head-2-is-the-votes : headOf (tableAfter then-all-is-lost emptyTable) 2
+    ≡ headIn (voteFor then-all-is-lost emptyTable) (eventsFor then-all-is-lost emptyTable) 2
+head-2-is-the-votes = the-table-holds-the-heads then-all-is-lost emptyTable accepts 2 (omega (arith, three-heads))
+
+-- its last tick
+pub the-last-tick-is-accepted : let plan = planFor then-all-is-lost emptyTable in
+    let before = roundsIn then-all-is-lost plan 2 (startsIn then-all-is-lost (plan .n) emptyTable) in
+    let ballots = receivedIn before (fourBytesAt (rowsIn then-all-is-lost plan 2) (2 * 4)) (plan .n) in
+    tickNumber (headOf before 2) ballots (getD (coinsIn then-all-is-lost plan 2) 2 0) ≡ 0
+the-last-tick-is-accepted =
+    no-tick-of-the-bench-is-refused then-all-is-lost emptyTable accepts 2 2
+    (omega (arith, three-rounds)) (omega (arith, three-heads))
+
+-- rows of zeros lose nothing
+nothing-lost : (rows : List ℕ) → rows ≡ replicate 12 0 → (receiver sender : ℕ) → receiver < 3
+    → member sender (fourBytesAt rows (receiver * 4)) ≡ false
+nothing-lost rows zeros zero sender h = ap (λ (l : List ℕ). member sender (fourBytesAt l 0)) zeros ∙ member-none sender
+nothing-lost rows zeros (suc zero) sender h =
+    ap (λ (l : List ℕ). member sender (fourBytesAt l 4)) zeros ∙ member-none sender
+nothing-lost rows zeros (suc (suc zero)) sender h =
+    ap (λ (l : List ℕ). member sender (fourBytesAt l 8)) zeros ∙ member-none sender
+nothing-lost rows zeros (suc (suc (suc k))) sender h = absurd (omega arith)
 
 first-loses-nothing : LosesNothing (voteFor then-all-is-lost emptyTable) (channelFor then-all-is-lost emptyTable 0)
-unfolding reporting
-first-loses-nothing zero sender r h = member-none sender
-first-loses-nothing (suc zero) sender r h = member-none sender
-first-loses-nothing (suc (suc zero)) sender r h = member-none sender
-first-loses-nothing (suc (suc (suc k))) sender r h = absurd (omega (arith, r))
+first-loses-nothing receiver sender r h =
+    nothing-lost (rowsIn then-all-is-lost (planFor then-all-is-lost emptyTable) 0)
+    (ap (λ (p : Plan). rowsIn then-all-is-lost p 0) plan-is) receiver sender (omega (arith, r, three-heads))
 
 second-loses-nothing : LosesNothing (voteFor then-all-is-lost emptyTable) (channelFor then-all-is-lost emptyTable 1)
-unfolding reporting
-second-loses-nothing zero sender r h = member-none sender
-second-loses-nothing (suc zero) sender r h = member-none sender
-second-loses-nothing (suc (suc zero)) sender r h = member-none sender
-second-loses-nothing (suc (suc (suc k))) sender r h = absurd (omega (arith, r))
+second-loses-nothing receiver sender r h =
+    nothing-lost (rowsIn then-all-is-lost (planFor then-all-is-lost emptyTable) 1)
+    (ap (λ (p : Plan). rowsIn then-all-is-lost p 1) plan-is) receiver sender (omega (arith, r, three-heads))
 
--- head 2, who proposed 0, decides 1, and has it after the third round
-pub head-2-decides-1 : headOf (tableAfter then-all-is-lost emptyTable) 2 .decision ≡ ForOne
-unfolding reporting
-head-2-decides-1 =
-    a-file-whose-first-two-rounds-lose-nothing-decides then-all-is-lost emptyTable then-all-is-lost-accepted 1
-    (lit< tt) (lit< tt) (lit≤ tt)
-    first-loses-nothing second-loses-nothing 2 (lit< tt)
+over-half : let n = planFor then-all-is-lost emptyTable .n in n < count n (λ s. eqb (getD then-all-is-lost (2 + s) 0) 1) * 2
+unfolding count
+over-half =
+    subst (λ (n : ℕ). n < count n (λ s. eqb (getD then-all-is-lost (2 + s) 0) 1) * 2) (sym three-heads) (lit< tt)
+
+-- head 2, who proposed 0, decides 1 as the others do, and has it after the third round
+pub all-decide-1 : (s : ℕ) → s < 3 → headOf (tableAfter then-all-is-lost emptyTable) s .decision ≡ decisionFor (valueOf 1)
+all-decide-1 s h =
+    a-file-whose-first-two-rounds-lose-nothing-decides then-all-is-lost emptyTable accepts 1 (lit< tt) over-half
+    (omega (arith, three-rounds)) first-loses-nothing second-loses-nothing s (omega (arith, h, three-heads))
+
+written : (s : ℕ) → s < 3 → WrittenDecision (headOf (tableAfter then-all-is-lost emptyTable) s)
+unfolding valueOf
+written s h none = let e : ForOne ≡ Unwritten = sym (all-decide-1 s h) ∙ none in let z : _≡_ {A = ℕ} 0 1 = cc in omega arith
+
+pub heads-0-and-2-agree : headOf (tableAfter then-all-is-lost emptyTable) 0 .decision
+    ≡ headOf (tableAfter then-all-is-lost emptyTable) 2 .decision
+heads-0-and-2-agree =
+    no-two-decisions-in-the-table-differ then-all-is-lost emptyTable accepts 0 2 (omega (arith, three-heads))
+    (omega (arith, three-heads)) (written 0 (lit< tt)) (written 2 (lit< tt))
+
+-- what head 2 decides some head proposed
+pub somebody-proposed-it : (t : ℕ) × (t < planFor then-all-is-lost emptyTable .n)
+    × (headOf (tableAfter then-all-is-lost emptyTable) 2 .decision ≡ decisionFor (valueOf (getD then-all-is-lost (2 + t) 0)))
+somebody-proposed-it =
+    each-decision-in-the-table-was-proposed then-all-is-lost emptyTable accepts 2 (omega (arith, three-heads))
+    (written 2 (lit< tt))
 
 -- ---- What is printed
 
-loss-and-coin-accepted : Accepts loss-and-coin emptyTable
-unfolding reporting
-loss-and-coin-accepted = refl
+-- the third round loses nine of nine
+pub nine-are-lost : let n = planFor then-all-is-lost emptyTable .n in lostTo n (channelFor then-all-is-lost emptyTable 2) n ≡ 9
+nine-are-lost =
+    sym (the-figure-counts-what-the-channel-loses then-all-is-lost emptyTable accepts 2 (omega (arith, three-rounds)))
+    ∙ ap (λ (p : Plan). lostIn (rowsIn then-all-is-lost p 2) (p .n)) plan-is
+    ∙ nine
+  where
+    nine : lostIn (rowsIn then-all-is-lost its-plan 2) 3 ≡ 9
+    nine = unfold reporting in refl
 
--- rows 4, 2 and 4 lose a ballot each
-pub three-are-lost : lostTo 3 (channelFor loss-and-coin emptyTable 0) 3 ≡ 3
-unfolding reporting
-three-are-lost =
-    sym (the-figure-counts-what-the-channel-loses loss-and-coin emptyTable loss-and-coin-accepted 0 (lit< tt))
+-- so two of its rounds are good
+pub two-rounds-are-good : let plan = planFor then-all-is-lost emptyTable in
+    count (plan .rounds) (λ r. leb (lostTo (plan .n) (channelFor then-all-is-lost emptyTable r) (plan .n))
+    (boundOf (plan .n) (plan .needed)))
+    ≡ 2
+two-rounds-are-good = sym (the-good-rounds-lose-at-most-the-bound then-all-is-lost emptyTable accepts) ∙ printed-good
+  where
+    good : goodIn then-all-is-lost its-plan 3 ≡ 2
+    good = unfold reporting in refl
 
--- of its three rounds one is good
-pub one-round-is-good : count 3 (λ r. leb (lostTo 3 (channelFor loss-and-coin emptyTable r) 3) 2) ≡ 1
-unfolding reporting
-one-round-is-good = sym (the-good-rounds-lose-at-most-the-bound loss-and-coin emptyTable loss-and-coin-accepted)
+    printed-good : outcomeOf then-all-is-lost emptyTable .good ≡ 2
+    printed-good = unfold outcomeOf in (ap (λ (p : Plan). goodIn then-all-is-lost p (p .rounds)) plan-is ∙ good)
 
 -- two refusals that differ in their place only print differently
 pub places-are-told : reportOf [] ≡ reportOf (0 ∷ []) → ⊥
@@ -225,17 +248,16 @@ places-are-told e =
     let same = equal-reports-come-from-equal-figures [] (0 ∷ []) (lit< tt) (lit< tt) e in
     omega (arith, ap (λ (o : Outcome). o .place) (same .0))
 
--- and so do two votes that differ in what is decided only
-abbrev flipped : List ℕ
-flipped = (0 ∷ 3 ∷ 0 ∷ 0 ∷ 1 ∷ []) ++ drop 5 printedCase
-
-pub decisions-are-told : reportOf printedCase ≡ reportOf flipped → ⊥
-unfolding reporting
-decisions-are-told e =
-    let same = equal-reports-come-from-equal-figures printedCase flipped (lit< tt) (lit< tt) e in
-    let d : ForOne ≡ ForZero = same .1 2 (lit< tt) .3 in
-    let z : _≡_ {A = ℕ} 0 1 = cc in
-    omega arith
+-- equal reports tell every head's last state
+pub heads-are-told : (file other : List ℕ)
+    → length file < 2 ^ 64
+    → length other < 2 ^ 64
+    → reportOf file ≡ reportOf other
+    → (s : ℕ) → s < benchedOf file .outcome .n
+    → let h = headOf (benchedOf file .heads) s in
+    let k = headOf (benchedOf other .heads) s in
+    (h .phase ≡ k .phase) × (h .value ≡ k .value) × (h .status ≡ k .status) × (h .decision ≡ k .decision)
+heads-are-told file other short brief e = equal-reports-come-from-equal-figures file other short brief e .1
 
 -- 41,002 bytes are enough
 pub reading-41002-bytes-is-enough : (file : List ℕ) → reportOf (take 41002 file) ≡ reportOf file

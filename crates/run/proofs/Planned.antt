@@ -7,7 +7,7 @@ use native.Mathlib.Nat.{mul-le-mul}
 use native.Mathlib.Omega.{arith}
 use Rattle.file.specs.declared.Plan.{Plan}
 use Rattle.file.specs.Plan.{planOf}
-use Rattle.file.proofs.Plans.{RuleByRule, RefusedFile, planned}
+use Rattle.file.proofs.reading.Plans.{RuleByRule, RefusedFile, planned}
 use Rattle.run.specs.Small.{Small}
 
 -- what the code wants of a plan

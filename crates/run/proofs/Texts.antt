@@ -19,7 +19,7 @@ use Rattle.file.specs.declared.Benched.{Benched}
 use Rattle.file.specs.declared.Text.{Text}
 use Rattle.file.specs.Table.{headOf}
 use Rattle.file.specs.Report.{valueWord, statusWord, decisionWord, joined, firstLine, headLine, headLines, lastLine, refusalLine, linesOf, textOf}
-use Rattle.file.proofs.Decimals.{decimal-short}
+use Rattle.file.proofs.printing.Decimals.{decimal-short}
 use Rattle.run.specs.Writing.{Held, noText, fitting, withWord, withAll}
 
 -- a word leaves a text that holds no more than its bytes

@@ -4,7 +4,7 @@ use native.Mathlib.Omega.{arith}
 use borrow.Author.Needs.{needs}
 use Rattle.io.specs.Digits.{digits, Fewest}
 use Rattle.file.specs.Report.{decimal}
-use Rattle.file.proofs.Decimals.{places-is}
+use Rattle.file.proofs.printing.Decimals.{places-is}
 use Rattle.run.specs.Writing.{withWord}
 use Rattle.run.proofs.text.with_number.Statement.{statement}
 use Rattle.run.proofs.text.with_number.Tie as tie

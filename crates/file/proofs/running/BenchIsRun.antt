@@ -21,8 +21,8 @@ use Rattle.rules.proofs.Phases.{no-early-refusal}
 use Rattle.file.specs.declared.Plan.{Plan}
 use Rattle.file.specs.Table.{headOf, startIn, startsIn, rowsIn, coinsIn, receivedIn, tickedIn, roundIn, roundsIn}
 use Rattle.file.specs.Vote.{voteIn, channelIn, eventsIn}
-use Rattle.file.proofs.Plans.{RuleByRule}
-use Rattle.file.proofs.Placing.{placed-length, placed-at, rounds-length}
+use Rattle.file.proofs.reading.Plans.{RuleByRule}
+use Rattle.file.proofs.running.Placing.{placed-length, placed-at, rounds-length}
 
 module _ (file : List ℕ) (plan : Plan) (table : List Head) (accepted : RuleByRule file (length table) plan) where
   abbrev starts : List Head

@@ -10,8 +10,8 @@ use Rattle.rules.specs.declared.Head.{Head}
 use Rattle.file.specs.declared.Outcome.{Outcome}
 use Rattle.file.specs.Table.{headOf}
 use Rattle.file.specs.Report.{decimal, joined, firstLine, headLine, headLines, lastLine, refusalLine, SameState}
-use Rattle.file.proofs.Decimals.{decimal-tells, decimal-lacks}
-use Rattle.file.proofs.WordsApart.{apart, value-apart, status-apart, decision-apart}
+use Rattle.file.proofs.printing.Decimals.{decimal-tells, decimal-lacks}
+use Rattle.file.proofs.printing.WordsApart.{apart, value-apart, status-apart, decision-apart}
 
 -- at most twenty digits
 abbrev pub Printable : ℕ → Type 0

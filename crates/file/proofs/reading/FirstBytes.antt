@@ -25,9 +25,9 @@ use Rattle.file.specs.Table.{tableAfter}
 use Rattle.file.specs.Figures.{boundOf, outcomeOf}
 use Rattle.file.specs.Benched.{emptyTable}
 use Rattle.file.specs.Report.{joined, linesOf, reportOf}
-use Rattle.file.proofs.Sections.{ordered, in-order, proposals-body, needed-body, losses-body, coins-body}
-use Rattle.file.proofs.Plans.{accepted-file, refused-file}
-use Rattle.file.proofs.Placing.{after-nothing}
+use Rattle.file.proofs.reading.Sections.{ordered, in-order, proposals-body, needed-body, losses-body, coins-body}
+use Rattle.file.proofs.reading.Plans.{accepted-file, refused-file}
+use Rattle.file.proofs.running.Placing.{after-nothing}
 
 -- ---- a refused file's outcome is its number and place
 

@@ -16,9 +16,9 @@ use Rattle.rules.proofs.Rounds.{ticked-once}
 use Rattle.rules.proofs.Decisions.{tick-keeps-decision}
 use Rattle.file.specs.declared.Plan.{Plan}
 use Rattle.file.specs.Vote.{voteIn, channelIn, eventsIn}
-use Rattle.file.proofs.Plans.{RuleByRule}
-use Rattle.file.proofs.BenchIsRun.{coin-bit}
-use Rattle.file.proofs.LosingNothing.{LosesNothing, two-lossless-rounds-decide}
+use Rattle.file.proofs.reading.Plans.{RuleByRule}
+use Rattle.file.proofs.running.BenchIsRun.{coin-bit}
+use Rattle.file.proofs.running.LosingNothing.{LosesNothing, two-lossless-rounds-decide}
 
 bit-written : (bit : ℕ) → bit < 2 → decisionFor (valueOf bit) ≡ Unwritten → ⊥
 unfolding valueOf

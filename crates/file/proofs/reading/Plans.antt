@@ -20,8 +20,9 @@ use Rattle.file.specs.Section.{countAt, counted, unlessBroken, checked, 
 use Rattle.file.specs.Rules.{StandsIn, KeepsEveryRule}
 use Rattle.file.specs.Refusal.{Line, _exactly-when_, Given, sectionRefusals, BitAt, Need, LossRow, fileRefusals}
 use Rattle.file.specs.Plan.{refusedPlan, taken, closedOf, afterLosses, afterNeeded, afterProposals, planOf}
-use Rattle.file.proofs.Sections.{Tells, tells-below, in-order, Meant, Kept, kept, tells-rule, tells-first}
-use Rattle.file.proofs.Sections.{first-near, proposals-meant, needed-meant, losses-meant, coins-meant}
+use Rattle.file.proofs.reading.Sections.{Tells, tells-below, in-order, Meant, Kept, kept, tells-rule}
+use Rattle.file.proofs.reading.Sections.{tells-first}
+use Rattle.file.proofs.reading.Sections.{first-near, proposals-meant, needed-meant, losses-meant, coins-meant}
 
 pub record RefusedFile (file : List ℕ) (plan : Plan) : Type 0 where
   pub number : ℕ

@@ -25,11 +25,11 @@ use Rattle.file.specs.Figures.{lostIn, boundOf, goodIn, decidedIn, outco
 use Rattle.file.specs.Vote.{voteFor, eventsFor}
 use Rattle.file.specs.Benched.{emptyTable, benchedOf}
 use Rattle.file.specs.Report.{joined, firstLine, headLines, lastLine, refusalLine, linesOf, reportOf, SameState}
-use Rattle.file.proofs.Plans.{RuleByRule, RefusedFile, accepted-file, refused-file}
-use Rattle.file.proofs.BenchIsRun.{heads-are, rounds-are-run, events-length}
-use Rattle.file.proofs.FirstBytes.{refused-outcome}
-use Rattle.file.proofs.LinesApart.{Printable, PrintableOutcome, refusal-apart, first-apart, lines-apart}
-use Rattle.file.proofs.LinesApart.{last-apart}
+use Rattle.file.proofs.reading.Plans.{RuleByRule, RefusedFile, accepted-file, refused-file}
+use Rattle.file.proofs.running.BenchIsRun.{heads-are, rounds-are-run, events-length}
+use Rattle.file.proofs.reading.FirstBytes.{refused-outcome}
+use Rattle.file.proofs.printing.LinesApart.{Printable, PrintableOutcome, refusal-apart, first-apart, lines-apart}
+use Rattle.file.proofs.printing.LinesApart.{last-apart}
 
 abbrev Same : List ℕ → List ℕ → Type 0
 Same file other =

@@ -12,7 +12,7 @@ use Rattle.rules.specs.Record.{fourBytesAt}
 use Rattle.rules.proofs.Sets.{member-none}
 use Rattle.rules.proofs.Truth.{never}
 use Rattle.file.specs.declared.Plan.{Plan}
-use Rattle.file.proofs.Plans.{RuleByRule}
+use Rattle.file.proofs.reading.Plans.{RuleByRule}
 
 abbrev zeros : ℕ → List ℕ
 zeros many = replicate many 0

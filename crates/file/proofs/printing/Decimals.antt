@@ -14,7 +14,7 @@ use Rattle.io.specs.Digits.{glyph, digits, Fewest}
 use Rattle.rules.specs.Below.{first}
 use Rattle.rules.proofs.Below.{NoneBefore, first-le, first-holds, search-finds, search-ends}
 use Rattle.file.specs.Report.{places, decimal}
-use Rattle.file.proofs.WordsApart.{Lacks, lacks-append}
+use Rattle.file.proofs.printing.WordsApart.{Lacks, lacks-append}
 
 -- twenty digits hold every number below 10 ^ 20
 few-digits : (n k : ℕ) → Fewest 10 1 n k → n < 10 ^ 20 → k ≤ 20

@@ -10,7 +10,7 @@ use borrow.Author.Tests.{eq-eqb}
 use Rattle.file.specs.Section.{countAt}
 use Rattle.file.specs.Refusal.{Line, _exactly-when_, Given, fileRefusals}
 use Rattle.file.specs.Plan.{planOf}
-use Rattle.file.proofs.Plans.{plan-given}
+use Rattle.file.proofs.reading.Plans.{plan-given}
 
 -- where a number other than 0 is given, one of its lines applies at the place
 abbrev pub Applying : ℕ → ℕ → List Line → Type 0

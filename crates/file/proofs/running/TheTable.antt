@@ -19,12 +19,12 @@ use Rattle.file.specs.Plan.{planFor}
 use Rattle.file.specs.Table.{headOf, startsIn, rowsIn, coinsIn, receivedIn, roundsIn, tableAfter}
 use Rattle.file.specs.Vote.{voteFor, channelFor, eventsFor, lostTo}
 use Rattle.file.specs.Figures.{lostIn, boundOf, outcomeOf, Accepts}
-use Rattle.file.proofs.Plans.{RuleByRule}
-use Rattle.file.proofs.Accepting.{accepted}
-use Rattle.file.proofs.BenchIsRun.{heads-are, rounds-are-run, bench-tick-accepted}
-use Rattle.file.proofs.LosingNothing.{LosesNothing}
-use Rattle.file.proofs.Deciding.{rounds-decide}
-use Rattle.file.proofs.LostBallots.{rows-count-what-is-lost, good-is}
+use Rattle.file.proofs.reading.Plans.{RuleByRule}
+use Rattle.file.proofs.reading.Accepting.{accepted}
+use Rattle.file.proofs.running.BenchIsRun.{heads-are, rounds-are-run, bench-tick-accepted}
+use Rattle.file.proofs.running.LosingNothing.{LosesNothing}
+use Rattle.file.proofs.running.Deciding.{rounds-decide}
+use Rattle.file.proofs.running.LostBallots.{rows-count-what-is-lost, good-is}
 
 module _ (file : List ℕ) (table : List Head) (accepts : Accepts file table) where
   abbrev plan : Plan

@@ -14,11 +14,12 @@ use Rattle.file.specs.Plan.{planFor}
 use Rattle.file.specs.Table.{tableAfter}
 use Rattle.file.specs.Figures.{outcomeOf, Accepts}
 use Rattle.file.specs.Benched.{emptyTable, benchedOf}
-use Rattle.file.proofs.Plans.{RuleByRule, RefusedFile, plan-given, accepted-file, refused-file, accepted-exactly}
-use Rattle.file.proofs.Plans.{no-line-applies}
-use Rattle.file.proofs.NeverSixteen.{never-sixteen}
-use Rattle.file.proofs.LargestFile.{padded, padded-length, largest-keeps}
-use Rattle.file.proofs.FirstBytes.{refused-table}
+use Rattle.file.proofs.reading.Plans.{RuleByRule, RefusedFile, plan-given, accepted-file, refused-file}
+use Rattle.file.proofs.reading.Plans.{accepted-exactly}
+use Rattle.file.proofs.reading.Plans.{no-line-applies}
+use Rattle.file.proofs.reading.NeverSixteen.{never-sixteen}
+use Rattle.file.proofs.reading.LargestFile.{padded, padded-length, largest-keeps}
+use Rattle.file.proofs.reading.FirstBytes.{refused-table}
 
 same-number : (file : List ℕ) (table : List Head) → outcomeOf file table .number ≡ planFor file table .number
 unfolding outcomeOf
