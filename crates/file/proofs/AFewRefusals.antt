@@ -19,20 +19,20 @@ pub record Answer : Type 0 where
   pub number : ℕ
   pub place : ℕ
 
-pub record Checked : Type 0 where
+pub record Compared : Type 0 where
   pub gives : Answer
   pub said : Answer
 
-abbrev answers : Outcome → ℕ → ℕ → Checked
+abbrev answers : Outcome → ℕ → ℕ → Compared
 answers o number place =
     record { gives = record { number = o .number; place = o .place }; said = record { number = number; place = place } }
 
 -- a file in a lent table of so many heads, with what document 01 says of it
-abbrev lent : ℕ → List ℕ → ℕ → ℕ → Checked
+abbrev lent : ℕ → List ℕ → ℕ → ℕ → Compared
 lent room file = answers (outcomeOf file (replicate room zeroHead))
 
 -- in the program's table
-abbrev gives : List ℕ → ℕ → ℕ → Checked
+abbrev gives : List ℕ → ℕ → ℕ → Compared
 gives file = answers (benchedOf file .outcome)
 
 -- ---- sound sections for three heads
@@ -54,7 +54,7 @@ losses = need ++ (0 ∷ 1 ∷ 0 ∷ 0 ∷ 0 ∷ 7 ∷ 0 ∷ 0 ∷ 0 ∷ 7 ∷ 0 
 abbrev coins : List ℕ
 coins = losses ++ (0 ∷ 3 ∷ 1 ∷ 0 ∷ 1 ∷ [])
 
-unfoldable pub files : List Checked
+unfoldable pub files : List Compared
 files =
     -- ---- section 1: "An empty file: 12 at 0."
     gives [] 12 0
@@ -118,7 +118,7 @@ files =
     ++ replicate 32 1) 0 0
     ∷ []
 
-pub each-file-has-its-number-and-place : map (λ (c : Checked). c .gives) files ≡ map (λ (c : Checked). c .said) files
+pub each-file-has-its-number-and-place : map (λ (c : Compared). c .gives) files ≡ map (λ (c : Compared). c .said) files
 unfolding files reporting
 each-file-has-its-number-and-place = refl
 

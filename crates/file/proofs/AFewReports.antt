@@ -105,31 +105,18 @@ pub two-digits-prints : reportOf two-digits ≡
 unfolding reporting
 two-digits-prints = refl
 
--- Ten heads, all of them needed, and ten rounds that lose nothing: every figure but the bound has two digits, every
--- phase too.
-abbrev pub every-figure-two-digits : List ℕ
-every-figure-two-digits =
-    (0 ∷ 10 ∷ []) ++ replicate 10 1 ++ (0 ∷ 1 ∷ 10 ∷ [])
-    ++ (0 ∷ 10 ∷ [])
-    ++ replicate 400 0
-    ++ (0 ∷ 100 ∷ [])
-    ++ replicate 100 0
+-- Two heads and ten rounds that lose nothing: the rounds, the good ones and the phases have two digits.
+abbrev pub ten-rounds : List ℕ
+ten-rounds =
+    (0 ∷ 2 ∷ 1 ∷ 1 ∷ []) ++ (0 ∷ 1 ∷ 2 ∷ []) ++ (0 ∷ 10 ∷ []) ++ replicate 80 0 ++ (0 ∷ 20 ∷ []) ++ replicate 20 0
 
-pub every-figure-two-digits-prints : reportOf every-figure-two-digits ≡
-    word "heads 10 need 10 bound 8\n"
+pub ten-rounds-print : reportOf ten-rounds ≡
+    word "heads 2 need 2 bound 0\n"
     ++ word "head 0 phase 11 value 1 status decided decision 1\n"
     ++ word "head 1 phase 11 value 1 status decided decision 1\n"
-    ++ word "head 2 phase 11 value 1 status decided decision 1\n"
-    ++ word "head 3 phase 11 value 1 status decided decision 1\n"
-    ++ word "head 4 phase 11 value 1 status decided decision 1\n"
-    ++ word "head 5 phase 11 value 1 status decided decision 1\n"
-    ++ word "head 6 phase 11 value 1 status decided decision 1\n"
-    ++ word "head 7 phase 11 value 1 status decided decision 1\n"
-    ++ word "head 8 phase 11 value 1 status decided decision 1\n"
-    ++ word "head 9 phase 11 value 1 status decided decision 1\n"
-    ++ word "rounds 10 good 10 decided 10\n"
+    ++ word "rounds 10 good 10 decided 2\n"
 unfolding reporting
-every-figure-two-digits-prints = refl
+ten-rounds-print = refl
 
 -- Two heads in a lent table of four: the third could be ticked with their ballots, and the fourth is decided. "after a
 -- run the first n are the heads and the others are untouched", nor are they counted.

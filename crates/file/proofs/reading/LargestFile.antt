@@ -83,18 +83,18 @@ module _ (rows coins : ℕ) where
   pub largest-keeps : rows ≡ 32768 → coins ≡ 8192 → RuleByRule (padded rows coins) 32 largest
   largest-keeps many more =
       record {
-        first = refl;
+        headsCount = refl;
         heads = (lit≤ tt, lit≤ tt);
         proposal = λ s h. omega (arith, proposal-at s h);
-        second = refl;
+        neededCount = refl;
         needed = refl;
         moreThanHalf = lit< tt;
         atMost = lit≤ tt;
-        third = refl;
+        roundsCount = refl;
         rounds = lit≤ tt;
         losses = refl;
         row = λ i h s m. never (sym (ap (member s) (no-losses i (omega (arith, h, many))) ∙ member-none s) ∙ m);
-        fourth =
+        coinsCount =
             ap₂ (λ (a b : ℕ). a * 256 + b) (after-at 32807 0 (omega (arith, many)))
             (after-at 32808 1 (omega (arith, many)));
         coins = refl;

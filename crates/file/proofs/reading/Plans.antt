@@ -20,7 +20,7 @@ use Rattle.file.specs.Section.{countAt, counted, unlessBroken, checked, 
 use Rattle.file.specs.Rules.{StandsIn, KeepsEveryRule}
 use Rattle.file.specs.Refusal.{Line, _exactly-when_, Given, sectionRefusals, BitAt, Need, LossRow, fileRefusals}
 use Rattle.file.specs.Plan.{refusedPlan, taken, closedOf, afterLosses, afterNeeded, afterProposals, planOf}
-use Rattle.file.proofs.reading.Sections.{Tells, tells-below, in-order, Meant, Kept, kept, tells-rule}
+use Rattle.file.proofs.reading.Sections.{Tells, tells-below, in-order, Meant, KeptSection, kept, tells-rule}
 use Rattle.file.proofs.reading.Sections.{tells-first}
 use Rattle.file.proofs.reading.Sections.{first-near, proposals-meant, needed-meant, losses-meant, coins-meant}
 
@@ -35,21 +35,21 @@ pub record RefusedFile (file : List ℕ) (plan : Plan) : Type 0 where
 -- what the lines of specs/Refusal come to in a file that keeps every rule, rule by rule
 pub record RuleByRule (file : List ℕ) (room : ℕ) (plan : Plan) : Type 0 where
   -- "Count n (2 to 32), then n proposals (0 or 1)."
-  pub first : countAt file 0 ≡ plan .n
+  pub headsCount : countAt file 0 ≡ plan .n
   pub heads : Heads (plan .n)
   pub proposal : (s : ℕ) → s < plan .n → getD file (2 + s) 0 < 2
   -- "Count 1, then k, the heads needed: more than n/2, at most n."
-  pub second : countAt file (2 + plan .n) ≡ 1
+  pub neededCount : countAt file (2 + plan .n) ≡ 1
   pub needed : getD file (4 + plan .n) 0 ≡ plan .needed
   pub moreThanHalf : plan .n < plan .needed * 2
   pub atMost : plan .needed ≤ plan .n
   -- "Count of rounds, 0 to 256; per round n rows of 4 bytes .. Bits from n up are zero."
-  pub third : countAt file (5 + plan .n) ≡ plan .rounds
+  pub roundsCount : countAt file (5 + plan .n) ≡ plan .rounds
   pub rounds : plan .rounds ≤ 256
   pub losses : plan .losses ≡ 7 + plan .n
   pub row : (i : ℕ) → i < plan .rounds * plan .n → LossRow (plan .n) file (plan .losses + i * 4)
   -- "Count n times rounds, then that many coins (0 or 1)"
-  pub fourth : countAt file (7 + plan .n + plan .rounds * plan .n * 4) ≡ plan .rounds * plan .n
+  pub coinsCount : countAt file (7 + plan .n + plan .rounds * plan .n * 4) ≡ plan .rounds * plan .n
   pub coins : plan .coins ≡ 9 + plan .n + plan .rounds * plan .n * 4
   pub coin : (i : ℕ) → i < plan .rounds * plan .n → getD file (plan .coins + i) 0 < 2
   -- "15, the first extra byte": there is none, and none is missing
@@ -61,8 +61,8 @@ pub record RuleByRule (file : List ℕ) (room : ℕ) (plan : Plan) : Type 0 wher
   pub place : plan .place ≡ 0
 
 -- a rule kept at a place, the place written otherwise
-moved : {a b : ℕ} (Keeps : ℕ → Type 0) → Keeps a → a ≡ b → Keeps b
-moved Keeps x e = subst Keeps e x
+carried : {a b : ℕ} (Keeps : ℕ → Type 0) → Keeps a → a ≡ b → Keeps b
+carried Keeps x e = subst Keeps e x
 
 -- a line has this number, one of 12 to 16
 abbrev Numbered : ℕ → ℕ → Type 0
@@ -127,7 +127,7 @@ module _ (file : List ℕ) (room : ℕ) where
       {Keeps : ℕ → Type 0}
       → Meant file count breaks Rule size pieces width test Keeps
       → (next : ℕ → ℕ → Plan) (later : List Line)
-      → (Kept file count Rule size pieces width Keeps (count + 2) size → Answers (next (count + 2) size) later)
+      → (KeptSection file count Rule size pieces width Keeps (count + 2) size → Answers (next (count + 2) size) later)
       → Answers (taken (checked file width test (counted file count breaks size)) next)
       (sectionRefusals file count Rule pieces width Keeps ++ later)
   unfolding checked unlessBroken
@@ -183,20 +183,20 @@ module _ (file : List ℕ) (room : ℕ) where
         either =
             inl
             (record {
-              first = refl;
+              headsCount = refl;
               heads = P .rule;
-              proposal = λ i h. moved (BitAt file) (P .each i h) (omega arith);
-              second = N .rule;
+              proposal = λ i h. carried (BitAt file) (P .each i h) (omega arith);
+              neededCount = N .rule;
               needed = ap (λ (p : ℕ). getD file p 0) (omega arith);
-              moreThanHalf = moved (λ p. n < getD file p 0 * 2) (N .each 0 (omega arith) .0) (omega arith);
-              atMost = moved (λ p. getD file p 0 ≤ n) (N .each 0 (omega arith) .1) (omega arith);
-              third = ap (countAt file) (omega arith);
+              moreThanHalf = carried (λ p. n < getD file p 0 * 2) (N .each 0 (omega arith) .0) (omega arith);
+              atMost = carried (λ p. getD file p 0 ≤ n) (N .each 0 (omega arith) .1) (omega arith);
+              roundsCount = ap (countAt file) (omega arith);
               rounds = L .rule;
               losses = omega arith;
               row = L .each;
-              fourth = moved (λ p. countAt file p ≡ rounds * n) (C .rule) (omega arith);
+              coinsCount = carried (λ p. countAt file p ≡ rounds * n) (C .rule) (omega arith);
               coins = omega arith;
-              coin = λ i h. moved (BitAt file) (C .each i h) (omega arith);
+              coin = λ i h. carried (BitAt file) (C .each i h) (omega arith);
               whole = omega (arith, ltb-false end (length file) a, C .inside);
               enough = ltb-false room n b;
               number = refl;
@@ -252,13 +252,13 @@ module _ (file : List ℕ) (room : ℕ) where
       }
     where
       n-same : planOf file room .n ≡ plan .n
-      n-same = sym (keeps .first) ∙ stands .n
+      n-same = sym (keeps .headsCount) ∙ stands .n
 
       needed-same : planOf file room .needed ≡ plan .needed
       needed-same = sym (keeps .needed) ∙ ap (λ (k : ℕ). getD file (4 + k) 0) n-same ∙ stands .needed
 
       rounds-same : planOf file room .rounds ≡ plan .rounds
-      rounds-same = sym (keeps .third) ∙ ap (λ (k : ℕ). countAt file (5 + k)) n-same ∙ stands .rounds
+      rounds-same = sym (keeps .roundsCount) ∙ ap (λ (k : ℕ). countAt file (5 + k)) n-same ∙ stands .rounds
 
       losses-same : planOf file room .losses ≡ plan .losses
       losses-same = omega (arith, keeps .losses, stands .losses, n-same)
@@ -279,9 +279,9 @@ module _ (file : List ℕ) (room : ℕ) where
           subst (KeepsEveryRule file room) (e .1) (
             plan-given 0 0 .0 (e .0, keeps .place),
             record {
-              n = keeps .first;
+              n = keeps .headsCount;
               needed = keeps .needed;
-              rounds = keeps .third;
+              rounds = keeps .roundsCount;
               losses = keeps .losses;
               coins = keeps .coins;
               number = keeps .number;
@@ -311,7 +311,7 @@ module _ (file : List ℕ) (room : ℕ) where
             inr (
               λ p x. long (x .0),
               inr
-                  (λ p x. x .3 (moved Keeps (each (x .0) (x .1)) (sym (x .2))), rest .none),
+                  (λ p x. x .3 (carried Keeps (each (x .0) (x .1)) (sym (x .2))), rest .none),
             ),
           ),
         );
@@ -319,19 +319,19 @@ module _ (file : List ℕ) (room : ℕ) where
 
   keeps-given : (plan : Plan) → RuleByRule file room plan → NoneApplies (fileRefusals file room)
   keeps-given plan keeps =
-      kept-section 0 _ n 1 (BitAt file) _ (moved Heads (keeps .heads) (sym same)) (omega (arith, ends))
-      (λ i h. moved (BitAt file) (keeps .proposal i (omega (arith, h, same))) (omega arith))
+      kept-section 0 _ n 1 (BitAt file) _ (carried Heads (keeps .heads) (sym same)) (omega (arith, ends))
+      (λ i h. carried (BitAt file) (keeps .proposal i (omega (arith, h, same))) (omega arith))
       (kept-section second _ 1 1 (Need n file) _
-      (moved (λ p. countAt file p ≡ 1) (keeps .second) (omega (arith, same))) (omega (arith, ends)) need
+      (carried (λ p. countAt file p ≡ 1) (keeps .neededCount) (omega (arith, same))) (omega (arith, ends)) need
       (kept-section third (rounds ≤ 256) (rounds * n) 4 (LossRow n file) _ (omega (arith, keeps .rounds, rounds-same))
       (omega (arith, ends))
       (λ i h s m. let low = keeps .row i (omega (arith, h, rows)) s
-      (moved (λ p. member s (fourBytesAt file p) ≡ true) m (omega (arith, same, keeps .losses))) in omega
+      (carried (λ p. member s (fourBytesAt file p) ≡ true) m (omega (arith, same, keeps .losses))) in omega
       (arith, same, low))
       (kept-section fourth _ (rounds * n) 1 (BitAt file) _
-      (moved (λ p. countAt file p ≡ plan .rounds * plan .n) (keeps .fourth) (omega (arith, same, rows)) ∙ sym rows)
+      (carried (λ p. countAt file p ≡ plan .rounds * plan .n) (keeps .coinsCount) (omega (arith, same, rows)) ∙ sym rows)
       (omega (arith, ends))
-      (λ i h. moved (BitAt file) (keeps .coin i (omega (arith, h, rows))) (omega (arith, same, keeps .coins, rows)))
+      (λ i h. carried (BitAt file) (keeps .coin i (omega (arith, h, rows))) (omega (arith, same, keeps .coins, rows)))
       (record {
         none = inr (
           λ p x. omega (arith, x .0, ends),
@@ -341,10 +341,10 @@ module _ (file : List ℕ) (room : ℕ) where
       }))))
     where
       same : n ≡ plan .n
-      same = keeps .first
+      same = keeps .headsCount
 
       rounds-same : rounds ≡ plan .rounds
-      rounds-same = moved (λ p. countAt file p ≡ plan .rounds) (keeps .third) (omega (arith, same))
+      rounds-same = carried (λ p. countAt file p ≡ plan .rounds) (keeps .roundsCount) (omega (arith, same))
 
       rows : rounds * n ≡ plan .rounds * plan .n
       rows = ap₂ (λ (a b : ℕ). a * b) rounds-same same
@@ -355,7 +355,7 @@ module _ (file : List ℕ) (room : ℕ) where
       need : (i : ℕ) → i < 1 → Need n file (second + 2 + i * 1)
       need i h =
           let k : getD file (second + 2 + i * 1) 0 ≡ plan .needed =
-          moved (λ p. getD file p 0 ≡ plan .needed) (keeps .needed) (omega (arith, same, h)) in
+          carried (λ p. getD file p 0 ≡ plan .needed) (keeps .needed) (omega (arith, same, h)) in
           (omega (arith, k, keeps .moreThanHalf, same), omega (arith, k, keeps .atMost, same))
 
   pub no-line-applies : (plan : Plan) → RuleByRule file room plan → planOf file room .number ≡ 0

@@ -120,7 +120,7 @@ pub record Meant (file : List ℕ) (count : ℕ) (breaks : Bool) (Rule : Type 0)
       (Keeps (count + 2 + i * width))
 
 -- what an accepted section says
-pub record Kept (file : List ℕ) (count : ℕ) (Rule : Type 0) (size pieces width : ℕ) (Keeps : ℕ → Type 0)
+pub record KeptSection (file : List ℕ) (count : ℕ) (Rule : Type 0) (size pieces width : ℕ) (Keeps : ℕ → Type 0)
     (start long : ℕ) : Type 0 where
   pub starts : start ≡ count + 2
   pub sized : long ≡ size
@@ -147,7 +147,7 @@ module _ {file : List ℕ} {count : ℕ} {breaks : Bool} {Rule : Type 0} {size p
 
   pub kept : (start long : ℕ) → start ≡ count + 2 → long ≡ size → breaks ≡ false → Inside
       → ltb broken (length body / width) ≡ false
-      → Kept file count Rule size pieces width Keeps start long
+      → KeptSection file count Rule size pieces width Keeps start long
   kept start long starts sized ruled inside none =
       record {
         starts = starts;
@@ -205,7 +205,7 @@ module _ {file : List ℕ} {count : ℕ} {breaks : Bool} {Rule : Type 0} {size p
       omega (arith, ltb-false (length file) (count + 2 + size) inside, meant .sized, mul-le-mul-right width few)
 
   pub section-body : (start long : ℕ) → checked file width test (counted file count breaks size) ≡ Body start long
-      → Kept file count Rule size pieces width Keeps start long
+      → KeptSection file count Rule size pieces width Keeps start long
   unfolding checked unlessBroken
   section-body start long e =
       go (ltb (length file) (count + 2)) breaks (ltb (length file) (count + 2 + size))
@@ -214,7 +214,7 @@ module _ {file : List ℕ} {count : ℕ} {breaks : Bool} {Rule : Type 0} {size p
       go : (a b c d : Bool) → breaks ≡ b → ltb (length file) (count + 2 + size) ≡ c → ltb broken (length body / width)
           ≡ d
           → ordered file count a b c (cond d (Refused 14 (count + 2 + broken * width)) (Body (count + 2) size))
-          ≡ Body start long → Kept file count Rule size pieces width Keeps start long
+          ≡ Body start long → KeptSection file count Rule size pieces width Keeps start long
       go true b c d x y z e = never-body e
       go false true c d x y z e = never-body e
       go false false true d x y z e = never-body e
@@ -315,6 +315,6 @@ module _ (file : List ℕ) where
       section-body (losses-meant at n) start size e in record { starts = K .starts; rounds = K .rule; sized = K .sized }
 
   pub coins-body : (at count start size : ℕ) → coinsOf file at count ≡ Body start size
-      → Kept file at (countAt file at ≡ count) count count 1 (BitAt file) start size
+      → KeptSection file at (countAt file at ≡ count) count count 1 (BitAt file) start size
   unfolding coinsOf
   coins-body at count = section-body (coins-meant at count)
