@@ -111,6 +111,16 @@ just-41001-bytes =
 pub an-empty-file-changes-nothing : (table : List Head) → tableAfter [] table ≡ table
 an-empty-file-changes-nothing table = a-refused-file-changes-nothing [] table (an-empty-file-is-refused table)
 
+-- nor does a file of two heads in a table of one, whatever it holds: it is refused by 16, after all else
+pub a-table-of-one-is-left : (h : Head) → tableAfter two-heads (h ∷ []) ≡ h ∷ []
+a-table-of-one-is-left h = a-refused-file-changes-nothing two-heads (h ∷ []) too-short
+  where
+    sixteen : outcomeOf two-heads (h ∷ []) .number ≡ 16
+    sixteen = unfold reporting in refl
+
+    too-short : Accepts two-heads (h ∷ []) → ⊥
+    too-short zero-given = omega (arith, sixteen, zero-given)
+
 -- two heads in a table of four
 pub the-third-and-fourth-are-untouched : drop 2 (tableAfter two-heads lent) ≡ others
 the-third-and-fourth-are-untouched =

@@ -1,4 +1,5 @@
--- A whole run file: its four sections in their order, then 15 and 16.
+-- A whole run file: its four sections in their order, then 15 and 16. Tests; what they mean is in Refusal, and where the
+-- plan's numbers stand in Rules.
 use Prim.Native.Nat.{ℕ, _+_, _*_}
 use mathlib.Core.List.{List}
 use mathlib.Core.Bool.{cond}

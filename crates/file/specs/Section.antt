@@ -1,5 +1,5 @@
 -- The sections of a run file: "Four sections in this order, each after a two-byte count, high byte first." Document 01,
--- 'Run file and bench'.
+-- 'Run file and bench'. Tests; what they mean is in Refusal.
 use Prim.Native.Nat.{ℕ, _+_, _*_, _/_}
 use mathlib.Core.List.{List, []}
 use mathlib.Core.Bool.{Bool, cond, _&&_, not}

@@ -1,14 +1,13 @@
 -- Equal reports come from equal figures and heads: every number that is printed has at most twenty digits, and the
 -- lines tell what they print.
-use Prim.Native.Nat.{ℕ, suc, _+_, _*_, _-_, _/_, _≤_, _<_, _^_}
+use Prim.Native.Nat.{ℕ, _+_, _-_, _/_, _≤_, _<_, _^_}
 use mathlib.Core.Path.{_≡_, refl, sym, ap, ap₂, subst, _∙_}
 use mathlib.Core.List.{List, _++_, append-assoc}
-use mathlib.Core.Bool.{Bool, true, false, cond}
 use native.Mathlib.Decide.{ℕ-discrete}
 use native.Mathlib.Nat.{mul-le-mul}
 use native.Mathlib.Omega.{arith}
 use lib.ListN.{length, getD}
-use lib.Dec.{leb, eqb}
+use lib.Dec.{leb}
 use borrow.Author.Tests.{eq-eqb, ne-eqb}
 use Rattle.rules.specs.declared.Head.{Head}
 use Rattle.rules.specs.Head.{isDecided, ballotOf}
@@ -19,9 +18,9 @@ use Rattle.rules.proofs.Phases.{phases-low}
 use Rattle.file.specs.declared.Plan.{Plan}
 use Rattle.file.specs.declared.Outcome.{Outcome}
 use Rattle.file.specs.declared.Benched.{Benched}
-use Rattle.file.specs.Plan.{planOf, planFor}
+use Rattle.file.specs.Plan.{planOf}
 use Rattle.file.specs.Table.{headOf, rowsIn, tableAfter}
-use Rattle.file.specs.Figures.{lostIn, boundOf, goodIn, decidedIn, outcomeOf, Accepts}
+use Rattle.file.specs.Figures.{lostIn, boundOf, goodIn, decidedIn, outcomeOf}
 use Rattle.file.specs.Vote.{voteFor, eventsFor}
 use Rattle.file.specs.Benched.{emptyTable, benchedOf}
 use Rattle.file.specs.Report.{joined, firstLine, headLines, lastLine, refusalLine, linesOf, reportOf, SameState}

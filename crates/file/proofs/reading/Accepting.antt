@@ -64,8 +64,8 @@ at-most-41001 file table zero =
 pub largest-accepted : (file : List ℕ) × (length file ≡ 41001) × Accepts file emptyTable
 largest-accepted = accepting 32768 8192 refl refl
   where
-    accepting : (rows coins : ℕ) → rows ≡ 32768 → coins ≡ 8192 → (file : List ℕ) × (length file ≡ 41001)
-        × Accepts file emptyTable
+    accepting : (rows coins : ℕ) → rows ≡ 32768 → coins ≡ 8192
+        → (file : List ℕ) × (length file ≡ 41001) × Accepts file emptyTable
     accepting rows coins many more = (
       padded rows coins,
       omega (arith, padded-length rows coins, many, more),
@@ -73,8 +73,8 @@ largest-accepted = accepting 32768 8192 refl refl
           ∙ no-line-applies (padded rows coins) 32 _ (largest-keeps rows coins many more),
     )
 
-pub refused-changes-nothing : (file : List ℕ) (table : List Head) → (Accepts file table → ⊥) → tableAfter file table
-    ≡ table
+pub refused-changes-nothing : (file : List ℕ) (table : List Head) → (Accepts file table → ⊥)
+    → tableAfter file table ≡ table
 refused-changes-nothing file table not-zero =
     let R = refused file table not-zero in
     refused-table file table (R .number) (R .place) (R .is)

@@ -47,8 +47,8 @@ pub refused-outcome : (file : List ℕ) (table : List Head) (number place : ℕ)
 unfolding outcomeOf count
 refused-outcome file table number place e = rw e refl
 
-pub refused-table : (file : List ℕ) (table : List Head) (number place : ℕ) → planOf file (length table)
-    ≡ refusedPlan number place → tableAfter file table ≡ table
+pub refused-table : (file : List ℕ) (table : List Head) (number place : ℕ)
+    → planOf file (length table) ≡ refusedPlan number place → tableAfter file table ≡ table
 refused-table file table number place e =
     after-nothing file table (ap (λ (p : Plan). p .n) e) (ap (λ (p : Plan). p .rounds) e)
 
@@ -84,8 +84,8 @@ module _ (file : List ℕ) (m : ℕ) (enough : 41002 ≤ m) (longer : m < length
             length-drop start file,
           )
 
-      each : (i : ℕ) → i < length (take size (drop start front)) → getD (take size (drop start front)) i 0
-          ≡ getD (take size (drop start file)) i 0
+      each : (i : ℕ) → i < length (take size (drop start front))
+          → getD (take size (drop start front)) i 0 ≡ getD (take size (drop start file)) i 0
       each i h =
           let low : i < size = omega (arith, h, length-take size (drop start front)) in
           getD-take size (drop start front) i 0 low ∙ getD-drop start front i 0
@@ -149,8 +149,8 @@ module _ (file : List ℕ) (m : ℕ) (enough : 41002 ≤ m) (longer : m < length
           ∙ section-same at _ (rounds * n) 1 notBit (omega (arith, enough, low))
           (λ e. omega (arith, enough, low, products))
 
-      ends : (start size : ℕ) → coinsOf file at (rounds * n) ≡ Body start size → next start size
-          ≡ closedOf (length file) room (start + size) (made start)
+      ends : (start size : ℕ) → coinsOf file at (rounds * n) ≡ Body start size
+          → next start size ≡ closedOf (length file) room (start + size) (made start)
       ends start size e =
           let C = coins-body file at (rounds * n) start size e in
           let end : start + size ≤ 41001 = omega (arith, C .starts, C .sized, low, products) in

@@ -114,9 +114,7 @@ module _ (file : List ℕ) (room : ℕ) where
   -- "Each section's answer is taken apart"
   section-line : {number place k : ℕ} {Applies : ℕ → Type 0} {later : List Line} (next : ℕ → ℕ → Plan) (s : Section)
       (t : Bool)
-      → Numbered k number
-      → Tells t place Applies
-      → (t ≡ true → place ≤ length file)
+      → Numbered k number → Tells t place Applies → (t ≡ true → place ≤ length file)
       → (t ≡ false → Answers (taken s next) later)
       → Answers (taken (cond t (Refused number place) s) next) ((k exactly-when Applies) ∷ later)
   section-line next s true = line {plan = taken s next} true
@@ -125,8 +123,7 @@ module _ (file : List ℕ) (room : ℕ) where
   -- a section and its four lines
   section : {count : ℕ} {breaks : Bool} {Rule : Type 0} {size pieces width : ℕ} {test : List ℕ → ℕ → Bool}
       {Keeps : ℕ → Type 0}
-      → Meant file count breaks Rule size pieces width test Keeps
-      → (next : ℕ → ℕ → Plan) (later : List Line)
+      → Meant file count breaks Rule size pieces width test Keeps → (next : ℕ → ℕ → Plan) (later : List Line)
       → (KeptSection file count Rule size pieces width Keeps (count + 2) size → Answers (next (count + 2) size) later)
       → Answers (taken (checked file width test (counted file count breaks size)) next)
       (sectionRefusals file count Rule pieces width Keeps ++ later)

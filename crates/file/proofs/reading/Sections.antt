@@ -46,8 +46,8 @@ module _ (file : List ℕ) (start size : ℕ) where
   body-at i h = getD-take size (drop start file) i 0 h ∙ getD-drop start file i 0
 
   -- and so is a row
-  pub four-bytes-at : (i : ℕ) → i + 3 < size → fourBytesAt (bodyOf file (Body start size)) i
-      ≡ fourBytesAt file (start + i)
+  pub four-bytes-at : (i : ℕ) → i + 3 < size
+      → fourBytesAt (bodyOf file (Body start size)) i ≡ fourBytesAt file (start + i)
   four-bytes-at i h =
       rw (
         body-at i (omega arith),
@@ -103,7 +103,8 @@ unfolding counted checked unlessBroken
 in-order file count breaks size width test =
     go (ltb (length file) (count + 2)) breaks (ltb (length file) (count + 2 + size))
   where
-    go : (a b c : Bool) → checked file width test (ordered file count a b c (Body (count + 2) size))
+    go : (a b c : Bool)
+        → checked file width test (ordered file count a b c (Body (count + 2) size))
         ≡ ordered file count a b c (checked file width test (Body (count + 2) size))
     go true b c = refl
     go false true c = refl
@@ -116,8 +117,8 @@ pub record Meant (file : List ℕ) (count : ℕ) (breaks : Bool) (Rule : Type 0)
   pub ruled : Means (not breaks) Rule
   pub sized : size ≡ pieces * width
   pub whole : size / width ≡ pieces
-  pub piece : (i : ℕ) → i < pieces → Means (not (test (bodyOf file (Body (count + 2) size)) (i * width)))
-      (Keeps (count + 2 + i * width))
+  pub piece : (i : ℕ) → i < pieces
+      → Means (not (test (bodyOf file (Body (count + 2) size)) (i * width))) (Keeps (count + 2 + i * width))
 
 -- what an accepted section says
 pub record KeptSection (file : List ℕ) (count : ℕ) (Rule : Type 0) (size pieces width : ℕ) (Keeps : ℕ → Type 0)
@@ -164,7 +165,8 @@ module _ {file : List ℕ} {count : ℕ} {breaks : Bool} {Rule : Type 0} {size p
   tells-rule = tells-at (breaks-rule (meant .ruled))
 
   -- 14: "a byte or row breaks its rule"
-  pub tells-first : Inside → Tells (ltb broken (length body / width)) (count + 2 + broken * width)
+  pub tells-first : Inside
+      → Tells (ltb broken (length body / width)) (count + 2 + broken * width)
       (FirstThatBreaks (count + 2) pieces width Keeps)
   tells-first inside = (found, only)
     where
@@ -184,8 +186,8 @@ module _ {file : List ℕ} {count : ℕ} {breaks : Bool} {Rule : Type 0} {size p
                 (ap not (first-before (length body / width) test-at j (omega (arith, h)))),
           )
 
-      only : (p : ℕ) → FirstThatBreaks (count + 2) pieces width Keeps p → (ltb broken (length body / width) ≡ true)
-          × (p ≡ count + 2 + broken * width)
+      only : (p : ℕ) → FirstThatBreaks (count + 2) pieces width Keeps p
+          → (ltb broken (length body / width) ≡ true) × (p ≡ count + 2 + broken * width)
       only p x =
           let broke : test-at (x .0) ≡ true = breaks-rule (meant .piece (x .0) (x .1)) .1 (rw (x .2) at (x .3)) in
           let whole : (j : ℕ) → j < x .0 → test-at j ≡ false =
@@ -211,10 +213,11 @@ module _ {file : List ℕ} {count : ℕ} {breaks : Bool} {Rule : Type 0} {size p
       go (ltb (length file) (count + 2)) breaks (ltb (length file) (count + 2 + size))
       (ltb broken (length body / width)) refl refl refl (sym (in-order file count breaks size width test) ∙ e)
     where
-      go : (a b c d : Bool) → breaks ≡ b → ltb (length file) (count + 2 + size) ≡ c → ltb broken (length body / width)
-          ≡ d
+      go : (a b c d : Bool) → breaks ≡ b → ltb (length file) (count + 2 + size) ≡ c
+          → ltb broken (length body / width) ≡ d
           → ordered file count a b c (cond d (Refused 14 (count + 2 + broken * width)) (Body (count + 2) size))
-          ≡ Body start long → KeptSection file count Rule size pieces width Keeps start long
+          ≡ Body start long
+          → KeptSection file count Rule size pieces width Keeps start long
       go true b c d x y z e = never-body e
       go false true c d x y z e = never-body e
       go false false true d x y z e = never-body e
@@ -248,8 +251,8 @@ module _ (file : List ℕ) where
       bits-meant 0 (countAt file 0) (means-twice
       (means-and (means-le 2 (countAt file 0)) (means-le (countAt file 0) 32)))
 
-  pub needed-meant : (count n : ℕ) → Meant file count (not (eqb (countAt file count) 1)) (countAt file count ≡ 1) 1 1 1
-      (notNeed n) (Need n file)
+  pub needed-meant : (count n : ℕ)
+      → Meant file count (not (eqb (countAt file count) 1)) (countAt file count ≡ 1) 1 1 1 (notNeed n) (Need n file)
   needed-meant count n =
       record {
         ruled = means-twice (means-eq (countAt file count) 1);
@@ -262,8 +265,9 @@ module _ (file : List ℕ) where
             (means-twice (means-and means-lt (means-le k n)));
       }
 
-  pub losses-meant : (count n : ℕ) → Meant file count (ltb 256 (countAt file count)) (countAt file count ≤ 256)
-      (countAt file count * n * 4) (countAt file count * n) 4 (notRow n) (LossRow n file)
+  pub losses-meant : (count n : ℕ)
+      → Meant file count (ltb 256 (countAt file count)) (countAt file count ≤ 256) (countAt file count * n * 4)
+      (countAt file count * n) 4 (notRow n) (LossRow n file)
   losses-meant count n =
       record {
         ruled =
@@ -277,8 +281,9 @@ module _ (file : List ℕ) where
             (means-twice (means-within n (fourBytesAt file (count + 2 + i * 4))));
       }
 
-  pub coins-meant : (count rows : ℕ) → Meant file count (not (eqb (countAt file count) rows))
-      (countAt file count ≡ rows) rows rows 1 notBit (BitAt file)
+  pub coins-meant : (count rows : ℕ)
+      → Meant file count (not (eqb (countAt file count) rows)) (countAt file count ≡ rows) rows rows 1 notBit
+      (BitAt file)
   coins-meant count rows = bits-meant count rows (means-twice (means-eq (countAt file count) rows))
 
   -- ---- where their bodies stand, for the code

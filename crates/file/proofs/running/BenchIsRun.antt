@@ -29,7 +29,8 @@ module _ (file : List ℕ) (plan : Plan) (table : List Head) (accepted : RuleByR
   starts = startsIn file (plan .n) table
 
   -- what is received from the table is what is received from the vote's heads
-  received-same : (r : ℕ) → ((s : ℕ) → s < plan .n → headOf (roundsIn file plan r starts) s
+  received-same : (r : ℕ)
+      → ((s : ℕ) → s < plan .n → headOf (roundsIn file plan r starts) s
       ≡ headIn (voteIn file plan) (eventsIn file plan r) s)
       → (receiver k : ℕ) → k ≤ plan .n
       → receivedIn (roundsIn file plan r starts) (fourBytesAt (rowsIn file plan r) (receiver * 4)) k
@@ -41,8 +42,8 @@ module _ (file : List ℕ) (plan : Plan) (table : List Head) (accepted : RuleByR
       (received-same r same receiver k (omega arith)) (same k h)
 
   -- "A round": each head of the table is ticked as the vote's is
-  pub heads-are : (r : ℕ) (s : ℕ) → s < plan .n → headOf (roundsIn file plan r starts) s
-      ≡ headIn (voteIn file plan) (eventsIn file plan r) s
+  pub heads-are : (r : ℕ) (s : ℕ) → s < plan .n
+      → headOf (roundsIn file plan r starts) s ≡ headIn (voteIn file plan) (eventsIn file plan r) s
   unfolding roundsIn roundIn
   heads-are zero s h = placed-at (plan .n) (startIn file (plan .n)) table s h (accepted .enough)
   heads-are (suc r) s h =
@@ -87,7 +88,8 @@ module _ (file : List ℕ) (plan : Plan) (table : List Head) (accepted : RuleByR
   -- ---- no tick of a bench run is refused
 
   -- a round adds a tick a head
-  round-length : (r k : ℕ) → length (ticksOfRound (voteIn file plan) (eventsIn file plan r) (channelIn file plan r) k)
+  round-length : (r k : ℕ)
+      → length (ticksOfRound (voteIn file plan) (eventsIn file plan r) (channelIn file plan r) k)
       ≡ k + length (eventsIn file plan r)
   round-length r zero = omega arith
   round-length r (suc k) = let i = round-length r k in omega (arith, i)
@@ -97,8 +99,8 @@ module _ (file : List ℕ) (plan : Plan) (table : List Head) (accepted : RuleByR
   events-length (suc r) = let i = events-length r in omega (arith, i, round-length r (plan .n), suc-mul r (plan .n))
 
   -- every tick of a round comes in a run
-  up-to : (r k s : ℕ) → s < k → Run (voteIn file plan)
-      (ticksOfRound (voteIn file plan) (eventsIn file plan r) (channelIn file plan r) k)
+  up-to : (r k s : ℕ) → s < k
+      → Run (voteIn file plan) (ticksOfRound (voteIn file plan) (eventsIn file plan r) (channelIn file plan r) k)
       → Run (voteIn file plan) (ticksOfRound (voteIn file plan) (eventsIn file plan r) (channelIn file plan r) (suc s))
   up-to r zero s h run = absurd (omega arith)
   up-to r (suc k) s h run = go (ℕ-discrete s k) (up-to r k s)

@@ -26,8 +26,8 @@ module _ (vote : Vote) (before : List Event) (channel : Channel) (none : LosesNo
       ap₂ (λ (a b : List ℕ). a ++ b) (same-received receiver r k (omega arith))
       (ap (λ (t : Bool). cond t [] (bytesOf (ballotOf (headIn vote before k)))) (none receiver k r h))
 
-  same-ticks : (k : ℕ) → k ≤ vote .n → ticksOfRound vote before channel k
-      ≡ ticksOfRound vote before (lossless (channel .coin)) k
+  same-ticks : (k : ℕ) → k ≤ vote .n
+      → ticksOfRound vote before channel k ≡ ticksOfRound vote before (lossless (channel .coin)) k
   same-ticks zero h = refl
   same-ticks (suc k) h =
       ap₂ (λ (l : List ℕ) (events : List Event). record { head = k; bytes = l; coin = channel .coin k } ∷ events)

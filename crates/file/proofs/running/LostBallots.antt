@@ -5,9 +5,7 @@ use mathlib.Core.List.{List}
 use mathlib.Core.Bool.{true}
 use native.Mathlib.Nat.{mul-le-mul-right, suc-mul}
 use native.Mathlib.Omega.{arith}
-use lib.ListN.{getD, drop}
 use lib.Dec.{leb}
-use lib.Seq.{getD-take, getD-drop}
 use Rattle.rules.specs.Below.{count}
 use Rattle.rules.specs.Heard.{member, size}
 use Rattle.rules.specs.Record.{fourBytesAt}

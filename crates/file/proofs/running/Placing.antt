@@ -19,8 +19,8 @@ placed-length zero f table = refl
 placed-length (suc k) f table = length-set (placed k f table) k (f k) ∙ placed-length k f table
 
 -- from k on nothing is placed
-pub placed-rest : (k : ℕ) (f : ℕ → Head) (table : List Head) (s : ℕ) → k ≤ s → headOf (placed k f table) s
-    ≡ headOf table s
+pub placed-rest : (k : ℕ) (f : ℕ → Head) (table : List Head) (s : ℕ) → k ≤ s
+    → headOf (placed k f table) s ≡ headOf table s
 unfolding placed
 placed-rest zero f table s h = refl
 placed-rest (suc k) f table s h =
@@ -38,8 +38,8 @@ placed-at (suc k) f table s h room = go (ℕ-discrete s k) (placed-at k f table 
     go (yes e) g = rw e (getD-set-same (placed k f table) k (f k) zeroHead (omega (arith, placed-length k f table)))
     go (no e) g = getD-set-other (placed k f table) k s (f k) zeroHead e ∙ g (omega (arith, e)) (omega arith)
 
-pub round-length : (n : ℕ) (rows coins : List ℕ) (table : List Head) → length (roundIn n rows coins table)
-    ≡ length table
+pub round-length : (n : ℕ) (rows coins : List ℕ) (table : List Head)
+    → length (roundIn n rows coins table) ≡ length table
 unfolding roundIn
 round-length n rows coins table = placed-length n (tickedIn n rows coins table) table
 
@@ -51,8 +51,8 @@ module _ (file : List ℕ) (plan : Plan) where
       round-length (plan .n) (rowsIn file plan r) (coinsIn file plan r) (roundsIn file plan r table)
       ∙ rounds-length r table
 
-  pub rounds-rest : (r : ℕ) (table : List Head) (s : ℕ) → plan .n ≤ s → headOf (roundsIn file plan r table) s
-      ≡ headOf table s
+  pub rounds-rest : (r : ℕ) (table : List Head) (s : ℕ) → plan .n ≤ s
+      → headOf (roundsIn file plan r table) s ≡ headOf table s
   unfolding roundsIn roundIn
   rounds-rest zero table s h = refl
   rounds-rest (suc r) table s h = placed-rest (plan .n) _ (roundsIn file plan r table) s h ∙ rounds-rest r table s h
@@ -73,8 +73,8 @@ after-rest file table s h =
     rounds-rest file plan (plan .rounds) (startsIn file (plan .n) table) s h
     ∙ placed-rest (plan .n) (startIn file (plan .n)) table s h
 
-pub after-drop : (file : List ℕ) (table : List Head) → drop (planFor file table .n) (tableAfter file table)
-    ≡ drop (planFor file table .n) table
+pub after-drop : (file : List ℕ) (table : List Head)
+    → drop (planFor file table .n) (tableAfter file table) ≡ drop (planFor file table .n) table
 after-drop file table = ext-getD zeroHead (drop n (tableAfter file table)) (drop n table) long each
   where
     n : ℕ
@@ -83,8 +83,8 @@ after-drop file table = ext-getD zeroHead (drop n (tableAfter file table)) (drop
     long : length (drop n (tableAfter file table)) ≡ length (drop n table)
     long = omega (arith, length-drop n (tableAfter file table), length-drop n table, after-length file table)
 
-    each : (i : ℕ) → i < length (drop n (tableAfter file table)) → headOf (drop n (tableAfter file table)) i
-        ≡ headOf (drop n table) i
+    each : (i : ℕ) → i < length (drop n (tableAfter file table))
+        → headOf (drop n (tableAfter file table)) i ≡ headOf (drop n table) i
     each i h =
         getD-drop n (tableAfter file table) i zeroHead
         ∙ after-rest file table (n + i) (omega arith)

@@ -33,15 +33,11 @@ module _ (file : List ℕ) (table : List Head) (accepts : Accepts file table) wh
   keeps : RuleByRule file (length table) (planFor file table)
   keeps = accepted file table accepts
 
-  -- a head's decision when the file is run
-  abbrev decision : ℕ → Head
-  decision s = headOf (tableAfter file table) s
-
   pub table-run : Run (voteFor file table) (eventsFor file table)
   table-run = rounds-are-run file plan table keeps (plan .rounds) (omega arith)
 
-  pub table-heads : (s : ℕ) → s < plan .n → headOf (tableAfter file table) s
-      ≡ headIn (voteFor file table) (eventsFor file table) s
+  pub table-heads : (s : ℕ) → s < plan .n
+      → headOf (tableAfter file table) s ≡ headIn (voteFor file table) (eventsFor file table) s
   unfolding tableAfter
   table-heads s h = heads-are file plan table keeps (plan .rounds) s h
 
@@ -67,9 +63,7 @@ module _ (file : List ℕ) (table : List Head) (accepts : Accepts file table) wh
       (rw b at wt)
       ∙ sym (ap (λ (h : Head). h .decision) b)
 
-  pub table-proposed : (s : ℕ)
-      → s < plan .n
-      → WrittenDecision (headOf (tableAfter file table) s)
+  pub table-proposed : (s : ℕ) → s < plan .n → WrittenDecision (headOf (tableAfter file table) s)
       → (t : ℕ) × (t < plan .n) × (headOf (tableAfter file table) s .decision
       ≡ decisionFor (valueOf (getD file (2 + t) 0)))
   table-proposed s hs ws =
