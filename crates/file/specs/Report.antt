@@ -65,14 +65,13 @@ firstLine o =
 unfoldable pub headLine : ℕ → Head → List (List ℕ)
 headLine s h =
     word "head " ∷ decimal s ∷ word " phase " ∷ decimal (h .phase) ∷ word " value " ∷ valueWord (h .value)
-    ∷ word " status "
-    ∷ statusWord (h .status) ∷ word " decision " ∷ decisionWord (h .decision) ∷ word "\n" ∷ []
+    ∷ word " status " ∷ statusWord (h .status) ∷ word " decision " ∷ decisionWord (h .decision) ∷ word "\n" ∷ []
 
 unfoldable pub headLines : ℕ → List Head → List (List ℕ)
 headLines zero heads = []
 headLines (suc k) heads = headLines k heads ++ headLine k (headOf heads k)
 
--- two heads whose lines are to be one: "its last state", as far as it is printed
+-- "its last state", as far as a line tells it, is the same
 abbrev pub SameState : Head → Head → Type 0
 SameState h k = (h .phase ≡ k .phase) × (h .value ≡ k .value) × (h .status ≡ k .status) × (h .decision ≡ k .decision)
 

@@ -27,8 +27,7 @@ few-digits n k fewest small = go (decLt 20 k)
           arith,
           small,
           fewest .2 (omega arith),
-          pow-le-pow-right {n = 10} (lit< tt) {i = 20} {j = k - 1}
-              (omega arith),
+          pow-le-pow-right {n = 10} (lit< tt) {i = 20} {j = k - 1} (omega arith),
         ))
 
 -- the fewest digits are the places

@@ -105,8 +105,7 @@ module _ (file : List ℕ) (short : length file < 2 ^ 64) where
           low,
           at,
           events-length file plan emptyTable keeps (plan .rounds),
-          mul-le-mul
-              (keeps .rounds) heads-few,
+          mul-le-mul (keeps .rounds) heads-few,
         )
 
   small : PrintableOutcome outcome

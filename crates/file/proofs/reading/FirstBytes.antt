@@ -78,8 +78,7 @@ module _ (file : List ℕ) (m : ℕ) (enough : 41002 ≤ m) (longer : m < length
             longer,
             front-length,
             length-take size (drop start front),
-            length-take size
-                (drop start file),
+            length-take size (drop start file),
             length-drop start front,
             length-drop start file,
           )
@@ -112,8 +111,7 @@ module _ (file : List ℕ) (m : ℕ) (enough : 41002 ≤ m) (longer : m < length
           let e = f refl in
           rw (
             le-ltb (length front) (at + 2 + size) (omega (arith, front-length)),
-            le-ltb (length file) (at + 2 + size)
-                (omega arith),
+            le-ltb (length file) (at + 2 + size) (omega arith),
             body-same (at + 2) size e,
           ) refl
 
@@ -156,8 +154,7 @@ module _ (file : List ℕ) (m : ℕ) (enough : 41002 ≤ m) (longer : m < length
           let end : start + size ≤ 41001 = omega (arith, C .starts, C .sized, low, products) in
           rw (
             lt-ltb (start + size) (length front) (omega (arith, end, enough, front-length)),
-            lt-ltb (start + size)
-                (length file) (omega (arith, end, enough, longer)),
+            lt-ltb (start + size) (length file) (omega (arith, end, enough, longer)),
           ) refl
 
   needed-next : (room at n k : ℕ) → at ≤ 37 → n ≤ 32 → afterNeeded front room at n k ≡ afterNeeded file room at n k

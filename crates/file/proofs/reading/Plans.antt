@@ -307,8 +307,7 @@ module _ (file : List ℕ) (room : ℕ) where
             λ p x. x .0 rule,
             inr (
               λ p x. long (x .0),
-              inr
-                  (λ p x. x .3 (carried Keeps (each (x .0) (x .1)) (sym (x .2))), rest .none),
+              inr (λ p x. x .3 (carried Keeps (each (x .0) (x .1)) (sym (x .2))), rest .none),
             ),
           ),
         );
@@ -332,8 +331,7 @@ module _ (file : List ℕ) (room : ℕ) where
       (record {
         none = inr (
           λ p x. omega (arith, x .0, ends),
-          inr
-              (λ p x. omega (arith, x .0, keeps .enough, same), (refl, refl)),
+          inr (λ p x. omega (arith, x .0, keeps .enough, same), (refl, refl)),
         );
       }))))
     where

@@ -53,8 +53,7 @@ module _ (file : List ℕ) (start size : ℕ) where
         body-at i (omega arith),
         body-at (i + 1) (omega arith),
         body-at (i + 2) (omega arith),
-        body-at (i + 3)
-            (omega arith),
+        body-at (i + 3) (omega arith),
       )
       (rw (next 1, next 2, next 3) refl)
     where
@@ -196,8 +195,7 @@ module _ {file : List ℕ} {count : ℕ} {breaks : Bool} {Rule : Type 0} {size p
           let e : broken ≡ x .0 =
           first-at (length body / width) test-at (x .0) whole broke (omega (arith, x .1, all inside)) in (
             lt-ltb broken (length body / width) (omega (arith, e, x .1, all inside)),
-            x .2
-                ∙ ap (λ (k : ℕ). count + 2 + k * width) (sym e),
+            x .2 ∙ ap (λ (k : ℕ). count + 2 + k * width) (sym e),
           )
 
   -- inside the file

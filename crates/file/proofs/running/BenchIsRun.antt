@@ -59,8 +59,7 @@ module _ (file : List ℕ) (plan : Plan) (table : List Head) (accepted : RuleByR
             arith,
             accepted .enough,
             rounds-length file plan r starts,
-            placed-length (plan .n)
-                (startIn file (plan .n)) table,
+            placed-length (plan .n) (startIn file (plan .n)) table,
           )
 
   -- a coin of a round is a coin of the file
@@ -74,8 +73,7 @@ module _ (file : List ℕ) (plan : Plan) (table : List Head) (accepted : RuleByR
         arith,
         at,
         ap (λ (k : ℕ). getD file k 0) place,
-        accepted .coin (r * plan .n + s)
-            (omega (arith, h, mul-le-mul-right (plan .n) early, suc-mul r (plan .n))),
+        accepted .coin (r * plan .n + s) (omega (arith, h, mul-le-mul-right (plan .n) early, suc-mul r (plan .n))),
       )
 
   -- "Tick them in any order ..": the rounds are a run
