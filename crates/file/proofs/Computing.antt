@@ -8,5 +8,7 @@ use Rattle.file.specs.Report.{decimal, firstLine, headLine, headLines, l
 
 -- under `unfolding reporting` a file's plan, its run and its report compute
 unfoldable pub reporting : Unit {0}
-unfolding computing counted unlessBroken checked proposalsOf neededOf lossesOf coinsOf closedOf afterLosses afterNeeded afterProposals planOf placed roundIn roundsIn tableAfter lostIn boundOf outcomeOf decimal firstLine headLine headLines lastLine refusalLine linesOf
+unfolding computing counted unlessBroken checked proposalsOf neededOf lossesOf coinsOf closedOf afterLosses
+    afterNeeded afterProposals planOf placed roundIn roundsIn tableAfter lostIn boundOf outcomeOf decimal firstLine
+    headLine headLines lastLine refusalLine linesOf
 reporting = tt
