@@ -1,5 +1,6 @@
--- Three more reports, computed: each file tells errors apart that document 01's printed case does not. The texts are those of
--- the independent bench (`bash tests/independent/files report < FILE`; `tools/runfile` writes such a file). Then a lent table.
+-- A few more reports, computed: each file tells errors apart that document 01's printed case does not. The texts are
+-- those of the independent bench (`bash tests/independent/files report < FILE`; `tools/runfile` writes such a file).
+-- Then lent tables.
 use Prim.Native.Nat.{ℕ}
 use mathlib.Core.Path.{_≡_, refl}
 use mathlib.Core.List.{List, [], _∷_, _++_}
@@ -8,7 +9,7 @@ use Rattle.rules.specs.declared.Value.the-variants.{One}
 use Rattle.rules.specs.declared.Status.the-variants.{Undecided, Decided}
 use Rattle.rules.specs.declared.Decision.the-variants.{One as ForOne, Unwritten}
 use Rattle.rules.specs.declared.Head.{Head}
-use Rattle.rules.specs.Head.{zeroHead}
+use Rattle.rules.specs.Head.{zeroHead, startOf}
 use Rattle.file.specs.Table.{tableAfter}
 use Rattle.file.specs.Figures.{outcomeOf}
 use Rattle.file.specs.Report.{word, reportOf}
@@ -19,9 +20,9 @@ abbrev rows : List ℕ → List ℕ
 rows [] = []
 rows (low ∷ more) = 0 ∷ 0 ∷ 0 ∷ low ∷ rows more
 
--- Three heads: values blank and 0, nothing decided, one round at the bound and two above it. Other losses, receiver and sender
--- exchanged, ballots formed after ticks, the own ballot always heard, other coins or coins in another order: each prints
--- something else.
+-- Three heads: values blank and 0, nothing decided, one round at the bound and two above it. Other losses, receiver and
+-- sender exchanged, ballots formed after ticks, the own ballot always heard, other coins or coins in another order:
+-- each prints something else.
 abbrev pub loss-and-coin : List ℕ
 loss-and-coin =
     (0 ∷ 3 ∷ 1 ∷ 0 ∷ 0 ∷ []) ++ (0 ∷ 1 ∷ 2 ∷ [])
@@ -43,11 +44,12 @@ pub loss-and-coin-prints : reportOf loss-and-coin ≡
 unfolding reporting
 loss-and-coin-prints = refl
 
--- Five heads: head 0 decides in the second round, misses the third and copies an undecided ballot in the fourth. "Step 2 can
--- put status back to undecided. The decision stays.": five decisions are written, and four heads are decided.
+-- Five heads: head 0 decides in the second round, misses the third and copies an undecided ballot in the fourth. "Step
+-- 2 can put status back to undecided. The decision stays.": five decisions are written, all of them 0, and four heads
+-- are decided.
 abbrev pub status-put-back : List ℕ
 status-put-back =
-    (0 ∷ 5 ∷ 1 ∷ 1 ∷ 1 ∷ 0 ∷ 0 ∷ []) ++ (0 ∷ 1 ∷ 3 ∷ [])
+    (0 ∷ 5 ∷ 0 ∷ 0 ∷ 0 ∷ 1 ∷ 1 ∷ []) ++ (0 ∷ 1 ∷ 3 ∷ [])
     ++ (0 ∷ 4 ∷ [])
     ++ rows (24 ∷ 24 ∷ 24 ∷ 17 ∷ 17 ∷ [])
     ++ rows (24 ∷ 17 ∷ 17 ∷ 17 ∷ 17 ∷ [])
@@ -58,11 +60,11 @@ status-put-back =
 
 pub status-put-back-prints : reportOf status-put-back ≡
     word "heads 5 need 3 bound 7\n"
-    ++ word "head 0 phase 4 value 1 status undecided decision 1\n"
-    ++ word "head 1 phase 5 value 1 status decided decision 1\n"
-    ++ word "head 2 phase 5 value 1 status decided decision 1\n"
-    ++ word "head 3 phase 5 value 1 status decided decision 1\n"
-    ++ word "head 4 phase 5 value 1 status decided decision 1\n"
+    ++ word "head 0 phase 4 value 0 status undecided decision 0\n"
+    ++ word "head 1 phase 5 value 0 status decided decision 0\n"
+    ++ word "head 2 phase 5 value 0 status decided decision 0\n"
+    ++ word "head 3 phase 5 value 0 status decided decision 0\n"
+    ++ word "head 4 phase 5 value 0 status decided decision 0\n"
     ++ word "rounds 4 good 1 decided 4\n"
 unfolding reporting
 status-put-back-prints = refl
@@ -103,20 +105,55 @@ pub two-digits-prints : reportOf two-digits ≡
 unfolding reporting
 two-digits-prints = refl
 
--- Two heads in a lent table of four: the third could be ticked with their ballots, and the fourth is decided. "after a run the
--- first n are the heads and the others are untouched", nor are they counted.
-abbrev two-heads : List ℕ
+-- Two heads and ten rounds that lose nothing: the rounds, the good ones and the phases have two digits.
+abbrev pub ten-rounds : List ℕ
+ten-rounds =
+    (0 ∷ 2 ∷ 1 ∷ 1 ∷ []) ++ (0 ∷ 1 ∷ 2 ∷ []) ++ (0 ∷ 10 ∷ []) ++ replicate 80 0 ++ (0 ∷ 20 ∷ []) ++ replicate 20 0
+
+pub ten-rounds-print : reportOf ten-rounds ≡
+    word "heads 2 need 2 bound 0\n"
+    ++ word "head 0 phase 11 value 1 status decided decision 1\n"
+    ++ word "head 1 phase 11 value 1 status decided decision 1\n"
+    ++ word "rounds 10 good 10 decided 2\n"
+unfolding reporting
+ten-rounds-print = refl
+
+-- Two heads in a lent table of four: the third could be ticked with their ballots, and the fourth is decided. "after a
+-- run the first n are the heads and the others are untouched", nor are they counted.
+abbrev pub two-heads : List ℕ
 two-heads = (0 ∷ 2 ∷ 0 ∷ 1 ∷ []) ++ (0 ∷ 1 ∷ 2 ∷ []) ++ (0 ∷ 1 ∷ []) ++ rows (0 ∷ 0 ∷ []) ++ (0 ∷ 2 ∷ 0 ∷ 0 ∷ [])
 
-abbrev others : List Head
+abbrev pub others : List Head
 others =
-    record { n = 3; own = 2; phase = 1; value = One; status = Undecided; decision = Unwritten; zeros = 0; ones = 0; blanks = 0 }
-    ∷ record { n = 3; own = 1; phase = 3; value = One; status = Decided; decision = ForOne; zeros = 0; ones = 0; blanks = 0 } ∷ []
+    record {
+      n = 3;
+      own = 2;
+      phase = 1;
+      value = One;
+      status = Undecided;
+      decision = Unwritten;
+      zeros = 0;
+      ones = 0;
+      blanks = 0;
+    }
+    ∷ record {
+      n = 3;
+      own = 1;
+      phase = 3;
+      value = One;
+      status = Decided;
+      decision = ForOne;
+      zeros = 0;
+      ones = 0;
+      blanks
+          = 0;
+    } ∷ []
 
-abbrev lent : List Head
+abbrev pub lent : List Head
 lent = zeroHead ∷ zeroHead ∷ others
 
-pub others-are-not-counted : outcomeOf two-heads lent ≡ record { number = 0; place = 0; n = 2; needed = 2; bound = 0; rounds = 1; good = 1; decided = 0 }
+pub others-are-not-counted : outcomeOf two-heads lent
+    ≡ record { number = 0; place = 0; n = 2; needed = 2; bound = 0; rounds = 1; good = 1; decided = 0 }
 unfolding reporting
 others-are-not-counted = refl
 
@@ -128,3 +165,26 @@ others-are-left-alone = refl
 pub a-refused-file-leaves-the-table : tableAfter (two-heads ++ (0 ∷ [])) lent ≡ lent
 unfolding reporting
 a-refused-file-leaves-the-table = refl
+
+-- The same in a table that already holds heads of another vote, one started and one decided: they are started anew.
+abbrev used : List Head
+used =
+    startOf 4 3 1 .head
+    ∷ record {
+      n = 4;
+      own = 2;
+      phase = 7;
+      value = One;
+      status = Decided;
+      decision = ForOne;
+      zeros = 0;
+      ones = 5;
+      blanks
+          = 0;
+    }
+    ∷ others
+
+pub heads-are-started-anew : (outcomeOf two-heads used ≡ outcomeOf two-heads lent)
+    × (tableAfter two-heads used ≡ tableAfter two-heads lent)
+unfolding reporting
+heads-are-started-anew = (refl, refl)

@@ -1,11 +1,9 @@
-pub mod Sections
-pub mod Plans
-pub mod Placing
-pub mod BenchIsRun
-pub mod Decimals
 pub mod Computing
-pub mod PrintedCase
-pub mod AFewReports
 pub mod AFewRefusals
-pub mod FirstBytes
+pub mod AFewReports
+pub mod PrintedCase
+pub mod reading
+pub mod running
+pub mod printing
 pub mod TheBench
+pub mod TheBenchApplied

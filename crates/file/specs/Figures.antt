@@ -1,7 +1,7 @@
 -- The figures of a run: the bound, the good rounds, the decided heads. Document 01, 'Run file and bench'.
 use Prim.Native.Nat.{ℕ, zero, suc, _+_, _*_, _/_, _-_}
+use mathlib.Core.Path.{_≡_}
 use mathlib.Core.List.{List}
-use lib.ListN.{length}
 use lib.Dec.{leb}
 use Rattle.rules.specs.declared.Head.{Head}
 use Rattle.rules.specs.Below.{count}
@@ -10,7 +10,7 @@ use Rattle.rules.specs.Head.{isDecided}
 use Rattle.rules.specs.Record.{fourBytesAt}
 use Rattle.file.specs.declared.Plan.{Plan}
 use Rattle.file.specs.declared.Outcome.{Outcome}
-use Rattle.file.specs.Plan.{planOf}
+use Rattle.file.specs.Plan.{planFor}
 use Rattle.file.specs.Table.{headOf, rowsIn, tableAfter}
 
 -- "its lost ballots, of n × n": those of the first k rows
@@ -24,15 +24,17 @@ boundOf n k = (n + 1) / 2 * (n - k) + k - 2
 
 -- "A round is good if its lost ballots .. are at most" the bound: how many of the first r rounds are
 abbrev pub goodIn : List ℕ → Plan → ℕ → ℕ
-goodIn file plan rounds = count rounds (λ r. leb (lostIn (rowsIn file plan r) (plan .n)) (boundOf (plan .n) (plan .needed)))
+goodIn file plan rounds =
+    count rounds (λ r. leb (lostIn (rowsIn file plan r) (plan .n)) (boundOf (plan .n) (plan .needed)))
 
 -- "heads whose status is decided"
 abbrev pub decidedIn : List Head → ℕ → ℕ
 decidedIn table n = count n (λ s. isDecided (headOf table s))
 
--- what the bench answers, when the run has left the table
-unfoldable pub outcomeIn : List ℕ → Plan → ℕ → Outcome
-outcomeIn file plan decided =
+-- what the bench answers
+unfoldable pub outcomeOf : List ℕ → List Head → Outcome
+outcomeOf file table =
+    let plan = planFor file table in
     record {
       number = plan .number;
       place = plan .place;
@@ -41,10 +43,9 @@ outcomeIn file plan decided =
       bound = boundOf (plan .n) (plan .needed);
       rounds = plan .rounds;
       good = goodIn file plan (plan .rounds);
-      decided = decided;
+      decided = decidedIn (tableAfter file table) (plan .n);
     }
 
-unfoldable pub outcomeOf : List ℕ → List Head → Outcome
-outcomeOf file table =
-    let plan = planOf file (length table) in
-    outcomeIn file plan (decidedIn (tableAfter file table) (plan .n))
+-- "0 is accepted.": a run file in the table that is lent
+abbrev pub Accepts : List ℕ → List Head → Type 0
+Accepts file table = outcomeOf file table .number ≡ 0

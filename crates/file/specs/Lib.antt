@@ -7,3 +7,4 @@ pub mod Report
 pub mod Vote
 pub mod Rules
 pub mod Refusal
+pub mod PrintedCase

@@ -1,9 +1,11 @@
--- A whole run file: its four sections in their order, then 15 and 16.
+-- A whole run file: its four sections in their order, then 15 and 16. Tests; what they mean is in Refusal, and where the
+-- plan's numbers stand in Rules.
 use Prim.Native.Nat.{ℕ, _+_, _*_}
 use mathlib.Core.List.{List}
 use mathlib.Core.Bool.{cond}
 use lib.ListN.{length, getD}
 use lib.Dec.{ltb}
+use Rattle.rules.specs.declared.Head.{Head}
 use Rattle.file.specs.declared.Section.{Section}
 use Rattle.file.specs.declared.Section.the-variants.{Body, Refused}
 use Rattle.file.specs.declared.Plan.{Plan}
@@ -20,14 +22,15 @@ taken (Body start length) next = next start length
 taken (Refused number place) next = refusedPlan number place
 
 -- "15, the first extra byte; 16, place 0"; "Number 16 is tested after the whole file."
-unfoldable pub closed : ℕ → ℕ → ℕ → Plan → Plan
-closed size room end plan = cond (ltb end size) (refusedPlan 15 end) (cond (ltb room (plan .n)) (refusedPlan 16 0) plan)
+unfoldable pub closedOf : ℕ → ℕ → ℕ → Plan → Plan
+closedOf size room end plan =
+    cond (ltb end size) (refusedPlan 15 end) (cond (ltb room (plan .n)) (refusedPlan 16 0) plan)
 
 -- "4. Count n times rounds, then that many coins", at a place, when the other sections are known
 unfoldable pub afterLosses : List ℕ → ℕ → ℕ → ℕ → ℕ → ℕ → ℕ → Plan
 afterLosses file room at n k rounds losses =
     taken (coinsOf file at (rounds * n)) (λ start size.
-    closed (length file) room (start + size)
+    closedOf (length file) room (start + size)
     (record { number = 0; place = 0; n = n; needed = k; rounds = rounds; losses = losses; coins = start }))
 
 -- "3. Count of rounds .."
@@ -43,3 +46,7 @@ afterProposals file room at n =
 -- "Four sections in this order", for a table with room for so many heads; "1. Count n (2 to 32), then n proposals"
 unfoldable pub planOf : List ℕ → ℕ → Plan
 planOf file room = taken (proposalsOf file) (λ start n. afterProposals file room (start + n) n)
+
+-- in the table that is lent
+abbrev pub planFor : List ℕ → List Head → Plan
+planFor file table = planOf file (length table)

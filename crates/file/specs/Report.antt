@@ -1,8 +1,9 @@
--- What the program prints. Document 01, 'Run file and bench': "First line: n, k, the good-round bound. One line a head, its
--- last state .. Last line: rounds run, good rounds, heads whose status is decided. A refusal prints one line only".
+-- What the program prints. Document 01, 'Run file and bench': "First line: n, k, the good-round bound. One line a head,
+-- its last state .. Last line: rounds run, good rounds, heads whose status is decided. A refusal prints one line only".
 use Prim.Native.Nat.{ℕ, zero, suc, _-_, _^_}
 use Prim.Native.Char.{code}
 use Prim.Native.String.{String, [] as none, _∷_ as _then_}
+use mathlib.Core.Path.{_≡_}
 use mathlib.Core.List.{List, [], _∷_, _++_}
 use mathlib.Core.Bool.{cond}
 use lib.ListN.{length, replicate}
@@ -57,22 +58,28 @@ joined (w ∷ words) = w ++ joined words
 -- "First line: n, k, the good-round bound."
 unfoldable pub firstLine : Outcome → List (List ℕ)
 firstLine o =
-    word "heads " ∷ decimal (o .n) ∷ word " need " ∷ decimal (o .needed) ∷ word " bound " ∷ decimal (o .bound) ∷ word "\n" ∷ []
+    word "heads " ∷ decimal (o .n) ∷ word " need " ∷ decimal (o .needed) ∷ word " bound " ∷ decimal (o .bound)
+    ∷ word "\n" ∷ []
 
 -- "One line a head, its last state"
 unfoldable pub headLine : ℕ → Head → List (List ℕ)
 headLine s h =
-    word "head " ∷ decimal s ∷ word " phase " ∷ decimal (h .phase) ∷ word " value " ∷ valueWord (h .value) ∷ word " status "
-    ∷ statusWord (h .status) ∷ word " decision " ∷ decisionWord (h .decision) ∷ word "\n" ∷ []
+    word "head " ∷ decimal s ∷ word " phase " ∷ decimal (h .phase) ∷ word " value " ∷ valueWord (h .value)
+    ∷ word " status " ∷ statusWord (h .status) ∷ word " decision " ∷ decisionWord (h .decision) ∷ word "\n" ∷ []
 
 unfoldable pub headLines : ℕ → List Head → List (List ℕ)
 headLines zero heads = []
 headLines (suc k) heads = headLines k heads ++ headLine k (headOf heads k)
 
+-- "its last state", as far as a line tells it, is the same
+abbrev pub SameState : Head → Head → Type 0
+SameState h k = (h .phase ≡ k .phase) × (h .value ≡ k .value) × (h .status ≡ k .status) × (h .decision ≡ k .decision)
+
 -- "Last line: rounds run, good rounds, heads whose status is decided."
 unfoldable pub lastLine : Outcome → List (List ℕ)
 lastLine o =
-    word "rounds " ∷ decimal (o .rounds) ∷ word " good " ∷ decimal (o .good) ∷ word " decided " ∷ decimal (o .decided) ∷ word "\n" ∷ []
+    word "rounds " ∷ decimal (o .rounds) ∷ word " good " ∷ decimal (o .good) ∷ word " decided " ∷ decimal (o .decided)
+    ∷ word "\n" ∷ []
 
 -- "A refusal prints one line only: refused, number, at, place"
 unfoldable pub refusalLine : Outcome → List (List ℕ)

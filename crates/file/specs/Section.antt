@@ -1,5 +1,5 @@
--- The sections of a run file: "Four sections in this order, each after a two-byte count, high byte first." Document 01, 'Run
--- file and bench'.
+-- The sections of a run file: "Four sections in this order, each after a two-byte count, high byte first." Document 01,
+-- 'Run file and bench'. Tests; what they mean is in Refusal.
 use Prim.Native.Nat.{ℕ, _+_, _*_, _/_}
 use mathlib.Core.List.{List, []}
 use mathlib.Core.Bool.{Bool, cond, _&&_, not}
@@ -21,8 +21,8 @@ abbrev pub bodyOf : List ℕ → Section → List ℕ
 bodyOf file (Body start length) = take length (drop start file)
 bodyOf file (Refused number place) = []
 
--- "In each section the count is read, then its rule tested, then the body's length": the section whose count stands at a
--- place. "Place of a refusal: 12, the file's length; 13, the count".
+-- "In each section the count is read, then its rule tested, then the body's length": the section whose count stands at
+-- a place. "Place of a refusal: 12, the file's length; 13, the count".
 unfoldable pub counted : List ℕ → ℕ → Bool → ℕ → Section
 counted file at breaks size =
     cond (ltb (length file) (at + 2)) (Refused 12 (length file))
@@ -36,7 +36,8 @@ firstBroken body width breaks = first (length body / width) (λ i. breaks body (
 -- "14, the byte, or the row's first byte", where the first piece that breaks its rule is one of the body's pieces
 unfoldable pub unlessBroken : Section → ℕ → ℕ → ℕ → Section
 unlessBroken (Refused number place) broken pieces width = Refused number place
-unlessBroken (Body start length) broken pieces width = cond (ltb broken pieces) (Refused 14 (start + broken * width)) (Body start length)
+unlessBroken (Body start length) broken pieces width =
+    cond (ltb broken pieces) (Refused 14 (start + broken * width)) (Body start length)
 
 -- ".. then its bytes."
 unfoldable pub checked : List ℕ → ℕ → (List ℕ → ℕ → Bool) → Section → Section

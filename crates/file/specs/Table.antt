@@ -1,9 +1,9 @@
--- The bench in a lent table of heads: the starts, the rounds, and what the table holds after a run. Document 01, 'Run file
--- and bench'.
+-- The bench in a lent table of heads: the starts, the rounds, and what the table holds after a run. Document 01, 'Run
+-- file and bench'.
 use Prim.Native.Nat.{ℕ, zero, suc, _+_, _*_}
 use mathlib.Core.List.{List, [], _++_}
 use mathlib.Core.Bool.{cond}
-use lib.ListN.{length, getD, set, take, drop}
+use lib.ListN.{getD, set, take, drop}
 use Rattle.rules.specs.declared.Head.{Head}
 use Rattle.rules.specs.Ballot.{bytesOf}
 use Rattle.rules.specs.Heard.{member}
@@ -11,7 +11,7 @@ use Rattle.rules.specs.Head.{zeroHead, startOf, ballotOf}
 use Rattle.rules.specs.Tick.{tickOf}
 use Rattle.rules.specs.Record.{fourBytesAt}
 use Rattle.file.specs.declared.Plan.{Plan}
-use Rattle.file.specs.Plan.{planOf}
+use Rattle.file.specs.Plan.{planFor}
 
 -- the head at a place of the table
 abbrev pub headOf : List Head → ℕ → Head
@@ -34,7 +34,8 @@ rowsIn file plan r = take (plan .n * 4) (drop (plan .losses + r * plan .n * 4) f
 abbrev pub coinsIn : List ℕ → Plan → ℕ → List ℕ
 coinsIn file plan r = take (plan .n) (drop (plan .coins + r * plan .n) file)
 
--- "Bit s set: the ballot of head s is lost to it.": the ballots of heads 0 to k - 1 that are not lost, "in sender order"
+-- "Bit s set: the ballot of head s is lost to it.": the ballots of heads 0 to k - 1 that are not lost, "in sender
+-- order"
 abbrev pub receivedIn : List Head → ℕ → ℕ → List ℕ
 receivedIn table lost zero = []
 receivedIn table lost (suc k) = receivedIn table lost k ++ cond (member k lost) [] (bytesOf (ballotOf (headOf table k)))
@@ -52,15 +53,16 @@ roundIn n rows coins table = placed n (tickedIn n rows coins table) table
 -- the table after so many rounds
 unfoldable pub roundsIn : List ℕ → Plan → ℕ → List Head → List Head
 roundsIn file plan zero table = table
-roundsIn file plan (suc r) table = roundIn (plan .n) (rowsIn file plan r) (coinsIn file plan r) (roundsIn file plan r table)
+roundsIn file plan (suc r) table =
+    roundIn (plan .n) (rowsIn file plan r) (coinsIn file plan r) (roundsIn file plan r table)
 
 -- the table with the n heads as they start
 abbrev pub startsIn : List ℕ → ℕ → List Head → List Head
 startsIn file n table = placed n (startIn file n) table
 
--- "after a run the first n are the heads and the others are untouched. Refused: nothing in the table changes", for then the
--- plan has no heads and no rounds.
+-- "after a run the first n are the heads and the others are untouched. Refused: nothing in the table changes", for then
+-- the plan has no heads and no rounds.
 unfoldable pub tableAfter : List ℕ → List Head → List Head
 tableAfter file table =
-    let plan = planOf file (length table) in
+    let plan = planFor file table in
     roundsIn file plan (plan .rounds) (startsIn file (plan .n) table)

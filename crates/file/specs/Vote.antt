@@ -2,11 +2,14 @@
 use Prim.Native.Nat.{ℕ, zero, suc, _+_, _*_}
 use mathlib.Core.List.{List, []}
 use lib.ListN.{getD}
+use Rattle.rules.specs.declared.Head.{Head}
+use Rattle.rules.specs.Below.{count}
 use Rattle.rules.specs.Heard.{member}
 use Rattle.rules.specs.Record.{fourBytesAt}
 use Rattle.rules.specs.Run.{Vote, Event}
 use Rattle.rules.specs.Round.{Channel, round}
 use Rattle.file.specs.declared.Plan.{Plan}
+use Rattle.file.specs.Plan.{planFor}
 use Rattle.file.specs.Table.{rowsIn, coinsIn}
 
 -- "Count n .., then n proposals"
@@ -25,3 +28,20 @@ channelIn file plan r =
 abbrev pub eventsIn : List ℕ → Plan → ℕ → List Event
 eventsIn file plan zero = []
 eventsIn file plan (suc r) = round (voteIn file plan) (eventsIn file plan r) (channelIn file plan r)
+
+-- "its lost ballots, of n × n": those that a channel loses to the receivers below k, of n senders
+abbrev pub lostTo : ℕ → Channel → ℕ → ℕ
+lostTo n channel zero = 0
+lostTo n channel (suc k) = lostTo n channel k + count n (channel .lost k)
+
+-- ---- in the table that is lent
+
+abbrev pub voteFor : List ℕ → List Head → Vote
+voteFor file table = voteIn file (planFor file table)
+
+abbrev pub channelFor : List ℕ → List Head → ℕ → Channel
+channelFor file table r = channelIn file (planFor file table) r
+
+-- the ticks of all rounds
+abbrev pub eventsFor : List ℕ → List Head → List Event
+eventsFor file table = eventsIn file (planFor file table) (planFor file table .rounds)

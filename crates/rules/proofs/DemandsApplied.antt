@@ -3,8 +3,8 @@
 -- here.
 use Prim.Native.Nat.{ℕ, zero, suc, _*_, _/_, _%_, _≤_, _<_}
 use mathlib.Core.Path.{_≡_, refl, sym, ap, _∙_}
-use mathlib.Core.List.{List, [], _∷_, _++_, map}
-use mathlib.Core.Bool.{true, false}
+use mathlib.Core.List.{List, [], _∷_}
+use mathlib.Core.Bool.{true}
 use mathlib.Core.Logic.{_⊎_, inl, inr, _↔_}
 use native.Mathlib.Omega.{arith}
 use lib.ListN.{length, getD, replicate}
@@ -19,23 +19,23 @@ use Rattle.rules.specs.declared.Ballot.{Ballot}
 use Rattle.rules.specs.declared.Head.{Head}
 use Rattle.rules.specs.declared.Ticked.{Ticked}
 use Rattle.rules.specs.Below.{count}
-use Rattle.rules.specs.Ballot.{bytesOf, encode, fiveAt, Bytes, ballotAt, readNumber, readBallot}
+use Rattle.rules.specs.Ballot.{bytesOf, encode, fiveAt, ballotAt, readNumber, readBallot}
 use Rattle.rules.specs.Head.{decisionCode, zeroHead, startNumber, startOf, ballotOf, sendOf}
-use Rattle.rules.specs.Tick.{ballots, gathered, quorum, tickNumber, tickOf}
-use Rattle.rules.specs.Record.{recordOf, headAt, startNumberFromC, recordAfterStart, tickNumberFromC, recordAfterTick, sendNumberFromC, bufferAfterSend}
-use Rattle.rules.specs.Given.{Sound, SoundRecord, Hears, WrittenDecision, Differ, HeldOtherwise, SomeBallot, TwoBallots, startTable, readTable, sendTable, tickTable, startTableFromC, tickTableFromC, sendTableFromC}
-use Rattle.rules.specs.Algorithm.{Process, line6, line8, lines9to13, atPhaseWith}
+use Rattle.rules.specs.Tick.{ballots, gathered, tickNumber, tickOf}
+use Rattle.rules.specs.Record.{recordOf, headAt, startNumberFromC, recordAfterStart, tickNumberFromC, recordAfterTick, bufferAfterSend}
+use Rattle.rules.specs.Given.{Sound, SoundRecord, Hears, WrittenDecision, Differ, HeldOtherwise, SomeBallot, TwoBallots, sendTable, tickTable, tickTableFromC, sendTableFromC}
+use Rattle.rules.specs.Algorithm.{Process, line8, lines9to13, atPhaseWith}
 use Rattle.rules.specs.History.{Handed, headAfter, ballotsIn, processAfter, Shows}
-use Rattle.rules.specs.Run.{Vote, Proper, Event, headIn, ticksOf, recordIn, Sent, Run, NotRefusedBeforeTheLastPhase, EveryHeadDecides}
+use Rattle.rules.specs.Run.{Vote, Event, headIn, recordIn, Sent, Run, NotRefusedBeforeTheLastPhase, EveryHeadDecides}
 use Rattle.rules.specs.Round.{Channel, round, LosesNothing}
-use Rattle.rules.specs.Sixteen.{ballot, start, head, Said, sixteen}
+use Rattle.rules.specs.Sixteen.{ballot, start, head, sixteen}
 use Rattle.rules.proofs.Counting.Truth.{never}
 use Rattle.rules.proofs.Computed.Computing.{computing}
 use Rattle.rules.proofs.Meaning.Given.{passed-over, applies, given-applies}
 use Rattle.rules.proofs.Computed.AWorkedRun.{twoOfThree}
 use Rattle.rules.proofs.Computed.WorkedRunsAreRuns.{two-of-three}
 use Rattle.rules.proofs.Rounds.Rounds.{run-proper}
-use Rattle.rules.proofs.Computed.LateRun.{three, oneSteps, lateAndRepeated, proper-three, late-and-repeated-is-a-run}
+use Rattle.rules.proofs.Computed.LateRun.{three, oneSteps, lateAndRepeated, late-and-repeated-is-a-run}
 use Rattle.rules.proofs.Demands as D
 
 -- ---- Demand 1: from the number to its sentence, and from the sentence to its number

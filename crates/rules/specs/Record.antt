@@ -1,14 +1,14 @@
 -- A head as the record of 20 bytes that the heads' firmware holds. Document 01, 'Heads and ballots'.
 use Prim.Native.Nat.{ℕ, _+_, _*_, _/_, _%_}
 use mathlib.Core.List.{List, [], _∷_, _++_}
-use mathlib.Core.Bool.{Bool, cond, _&&_, _||_, not}
+use mathlib.Core.Bool.{Bool, cond, _&&_, not}
 use lib.ListN.{length, getD, replicate}
 use lib.Dec.{ltb, eqb}
 use Rattle.rules.specs.declared.Decision.{Decision}
 use Rattle.rules.specs.declared.Decision.the-variants.{Zero as ForZero, One as ForOne, Unwritten}
 use Rattle.rules.specs.declared.Head.{Head}
 use Rattle.rules.specs.Number.{_when_, firstThatApplies}
-use Rattle.rules.specs.Ballot.{valueCode, valueOf, statusCode, statusOf, bytesOf, notHeads}
+use Rattle.rules.specs.Ballot.{valueCode, valueOf, statusCode, statusOf, bytesOf}
 use Rattle.rules.specs.Head.{headWith, decisionCode, sound, startLines, startOf, ballotOf}
 use Rattle.rules.specs.Tick.{tickNumber, tickOf}
 

@@ -1,7 +1,7 @@
 -- Runs of a whole vote, as demand 3 has them: "Start n heads once each, numbered 0 to n - 1 .. Tick them in any order,
 -- with lists of at most 64 ballots that these heads sent earlier in the vote, any of them lost, late or repeated, and
 -- any coin bits."
-use Prim.Native.Nat.{ℕ, _*_, _%_, _≤_, _<_}
+use Prim.Native.Nat.{ℕ, _%_, _≤_, _<_}
 use mathlib.Core.Path.{_≡_}
 use mathlib.Core.List.{List, [], _∷_, _++_}
 use mathlib.Core.Bool.{cond}

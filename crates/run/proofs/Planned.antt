@@ -6,23 +6,40 @@ use mathlib.Core.Logic.{_⊎_, inl, inr}
 use native.Mathlib.Nat.{mul-le-mul}
 use native.Mathlib.Omega.{arith}
 use Rattle.file.specs.declared.Plan.{Plan}
-use Rattle.file.specs.Rules.{KeepsEveryRule}
 use Rattle.file.specs.Plan.{planOf}
-use Rattle.file.proofs.Plans.{RefusedFile, planned}
+use Rattle.file.proofs.reading.Plans.{RuleByRule, RefusedFile, planned}
 use Rattle.run.specs.Small.{Small}
 
 -- what the code wants of a plan
 abbrev Fits : ℕ → Plan → Type 0
 Fits room plan = (plan .n ≤ room) × Small plan
 
-fits : (file : List ℕ) (room : ℕ) (plan : Plan) → KeepsEveryRule file room plan ⊎ RefusedFile plan → Fits room plan
+fits : (file : List ℕ) (room : ℕ) (plan : Plan) → RuleByRule file room plan ⊎ RefusedFile file plan → Fits room plan
 fits file room plan (inl a) =
     let least : plan .n ≤ 32 = omega (arith, a .heads) in
-    let products = mul-le-mul (a .rounds) least in
-    (a .enough, record { heads = least; need = a .atMost; rounds = a .rounds; losses = omega (arith, a .losses, least); coins = omega (arith, a .coins, least, products) })
+    let products = mul-le-mul (a .rounds) least in (
+      a .enough,
+      record {
+        heads = least;
+        need = a .atMost;
+        rounds = a .rounds;
+        losses = omega
+            (arith, a .losses, least);
+        coins = omega (arith, a .coins, least, products);
+      },
+    )
 fits file room plan (inr r) =
-    subst (Fits room) (sym (r .is))
-    (omega arith, record { heads = omega arith; need = omega arith; rounds = omega arith; losses = omega arith; coins = omega arith })
+    subst (Fits room) (sym (r .is)) (
+      omega arith,
+      record {
+        heads = omega arith;
+        need = omega arith;
+        rounds = omega arith;
+        losses = omega arith;
+        coins =
+            omega arith;
+      },
+    )
 
 pub planned-room : (file : List ℕ) (room : ℕ) → planOf file room .n ≤ room
 planned-room file room = fits file room (planOf file room) (planned file room) .0

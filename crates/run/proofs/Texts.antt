@@ -18,24 +18,30 @@ use Rattle.file.specs.declared.Outcome.{Outcome}
 use Rattle.file.specs.declared.Benched.{Benched}
 use Rattle.file.specs.declared.Text.{Text}
 use Rattle.file.specs.Table.{headOf}
-use Rattle.file.specs.Report.{valueWord, statusWord, decisionWord, joined, firstLine, headLine, headLines, lastLine, refusalLine, linesOf, textOf}
-use Rattle.file.proofs.Decimals.{decimal-short}
+use Rattle.file.specs.Report.{valueWord, statusWord, decisionWord, joined, firstLine, headLine, headLines, lastLine}
+use Rattle.file.specs.Report.{refusalLine, linesOf, textOf}
+use Rattle.file.proofs.printing.Decimals.{decimal-short}
 use Rattle.run.specs.Writing.{Held, noText, fitting, withWord, withAll}
 
 -- a word leaves a text that holds no more than its bytes
 pub word-held : (text : Text) (word : List ℕ) → Held text → Held (withWord text word)
 unfolding withWord
-word-held text word held =
-    (length-paste (text .bytes) (text .length) word (fitting text word) (omega (arith, held .0, held .1)) (omega arith) ∙ held .0, omega (arith, held .1))
+word-held text word held = (
+  length-paste (text .bytes) (text .length) word (fitting text word) (omega (arith, held .0, held .1)) (omega arith)
+      ∙ held .0,
+  omega (arith, held .1),
+)
 
 -- what the code leaves is the text with the word
-pub written : (text : Text) (word bytes : List ℕ) (many : ℕ) → bytes ≡ paste (text .bytes) (text .length) word (fitting text word) → many ≡ fitting text word
+pub written : (text : Text) (word bytes : List ℕ) (many : ℕ) → bytes
+    ≡ paste (text .bytes) (text .length) word (fitting text word) → many ≡ fitting text word
     → _≡_ {A = Text} (record { bytes = bytes; length = text .length + many }) (withWord text word)
 unfolding withWord
 written text word bytes many a b = rw (a, b) refl
 
 -- words after words
-pub all-append : (text : Text) (words more : List (List ℕ)) → withAll (withAll text words) more ≡ withAll text (words ++ more)
+pub all-append : (text : Text) (words more : List (List ℕ))
+    → withAll (withAll text words) more ≡ withAll text (words ++ more)
 unfolding withAll
 all-append text [] more = refl
 all-append text (word ∷ words) more = all-append (withWord text word) words more
@@ -45,10 +51,12 @@ all-append text (word ∷ words) more = all-append (withWord text word) words mo
 drop-zeros : (k n : ℕ) → drop {A = ℕ} k (replicate n 0) ≡ replicate (n - k) 0
 drop-zeros zero n = let e : n ≡ n - 0 = omega arith in ap (λ (m : ℕ). replicate m 0) e
 drop-zeros (suc k) zero = let e : 0 ≡ 0 - suc k = omega arith in ap (λ (m : ℕ). replicate m 0) e
-drop-zeros (suc k) (suc n) = let e : n - k ≡ suc n - suc k = omega arith in drop-zeros k n ∙ ap (λ (m : ℕ). replicate m 0) e
+drop-zeros (suc k) (suc n) =
+    let e : n - k ≡ suc n - suc k = omega arith in drop-zeros k n ∙ ap (λ (m : ℕ). replicate m 0) e
 
 -- a text of these bytes, and a word at its end
-word-is : (bytes word : List ℕ) → length bytes + length word ≤ 4096 → withWord (textOf bytes) word ≡ textOf (bytes ++ word)
+word-is : (bytes word : List ℕ) → length bytes + length word ≤ 4096
+    → withWord (textOf bytes) word ≡ textOf (bytes ++ word)
 unfolding withWord
 word-is bytes word room = ap₂ (λ (b : List ℕ) (l : ℕ). as-text b l) front long
   where
@@ -63,13 +71,16 @@ word-is bytes word room = ap₂ (λ (b : List ℕ) (l : ℕ). as-text b l) front
 
     rest : drop (length word) zeros ≡ replicate (4096 - length (bytes ++ word)) 0
     rest =
-        let e : 4096 - length bytes - length word ≡ 4096 - length (bytes ++ word) = omega (arith, length-append bytes word) in
+        let e : 4096 - length bytes - length word ≡ 4096 - length (bytes ++ word) =
+        omega (arith, length-append bytes word) in
         drop-zeros (length word) (4096 - length bytes) ∙ ap (λ (m : ℕ). replicate m 0) e
 
-    front : paste (bytes ++ zeros) (length bytes) word (min (length word) (4096 - length bytes)) ≡ bytes ++ word ++ replicate (4096 - length (bytes ++ word)) 0
+    front : paste (bytes ++ zeros) (length bytes) word (min (length word) (4096 - length bytes)) ≡ bytes ++ word
+        ++ replicate (4096 - length (bytes ++ word)) 0
     front =
         ap (paste (bytes ++ zeros) (length bytes) word) all
-        ∙ ap (λ (a : List ℕ). a ++ take (length word) word ++ drop (length bytes + length word) (bytes ++ zeros)) (take-append-seam bytes zeros)
+        ∙ ap (λ (a : List ℕ). a ++ take (length word) word ++ drop (length bytes + length word) (bytes ++ zeros))
+        (take-append-seam bytes zeros)
         ∙ ap (λ (a : List ℕ). bytes ++ a ++ drop (length bytes + length word) (bytes ++ zeros)) (take-length word)
         ∙ ap (λ (a : List ℕ). bytes ++ word ++ a) (drop-append-add bytes zeros (length word) ∙ rest)
 
@@ -77,7 +88,8 @@ word-is bytes word room = ap₂ (λ (b : List ℕ) (l : ℕ). as-text b l) front
     long = omega (arith, length-append bytes word)
 
 -- and words
-all-is : (bytes : List ℕ) (words : List (List ℕ)) → length bytes + length (joined words) ≤ 4096 → withAll (textOf bytes) words ≡ textOf (bytes ++ joined words)
+all-is : (bytes : List ℕ) (words : List (List ℕ)) → length bytes + length (joined words) ≤ 4096
+    → withAll (textOf bytes) words ≡ textOf (bytes ++ joined words)
 unfolding withAll
 all-is bytes [] room = sym (ap textOf (append-nil bytes))
 all-is bytes (word ∷ words) room =
@@ -86,7 +98,8 @@ all-is bytes (word ∷ words) room =
     ∙ ap textOf (append-assoc bytes word (joined words))
 
 -- from nothing: the words' bytes joined
-pub words-are-text : (words : List (List ℕ)) → length (joined words) ≤ 4096 → withAll noText words ≡ textOf (joined words)
+pub words-are-text : (words : List (List ℕ)) → length (joined words) ≤ 4096
+    → withAll noText words ≡ textOf (joined words)
 words-are-text words room = all-is [] words (omega (arith, room))
 
 -- ---- a report is short
@@ -94,7 +107,9 @@ words-are-text words room = all-is [] words (omega (arith, room))
 -- how many bytes words have
 joined-append : (words more : List (List ℕ)) → joined (words ++ more) ≡ joined words ++ joined more
 joined-append [] more = refl
-joined-append (word ∷ words) more = ap (λ (rest : List ℕ). word ++ rest) (joined-append words more) ∙ sym (append-assoc word (joined words) (joined more))
+joined-append (word ∷ words) more =
+    ap (λ (rest : List ℕ). word ++ rest) (joined-append words more)
+    ∙ sym (append-assoc word (joined words) (joined more))
 
 abbrev total : List (List ℕ) → ℕ
 total [] = 0
@@ -124,12 +139,26 @@ decision-short Unwritten = omega arith
 
 line-short : (s : ℕ) (h : Head) → total (headLine s h) ≤ 96
 unfolding headLine
-line-short s h = omega (arith, decimal-short s, decimal-short (h .phase), value-short (h .value), status-short (h .status), decision-short (h .decision))
+line-short s h =
+    omega (
+      arith,
+      decimal-short s,
+      decimal-short (h .phase),
+      value-short (h .value),
+      status-short (h .status),
+      decision-short (h .decision),
+    )
 
 lines-short : (n : ℕ) (heads : List Head) → total (headLines n heads) ≤ n * 96
 unfolding headLines
 lines-short zero heads = omega arith
-lines-short (suc k) heads = omega (arith, total-append (headLines k heads) (headLine k (headOf heads k)), lines-short k heads, line-short k (headOf heads k))
+lines-short (suc k) heads =
+    omega (
+      arith,
+      total-append (headLines k heads) (headLine k (headOf heads k)),
+      lines-short k heads,
+      line-short k (headOf heads k),
+    )
 
 first-short : (o : Outcome) → total (firstLine o) ≤ 80
 unfolding firstLine
@@ -150,7 +179,8 @@ report-short b few = go (eqb (b .outcome .number) 0)
     o : Outcome
     o = b .outcome
 
-    go : (t : Bool) → length (joined (cond t (firstLine o ++ headLines (o .n) (b .heads) ++ lastLine o) (refusalLine o))) ≤ 4096
+    go : (t : Bool)
+        → length (joined (cond t (firstLine o ++ headLines (o .n) (b .heads) ++ lastLine o) (refusalLine o))) ≤ 4096
     go true =
         omega (
           arith,

@@ -2,7 +2,7 @@
 ghost use mathlib.Core.Path.{_≡_};
 ghost use Prim.Native.Nat.{_≤_};
 ghost use lib.ListN.{length};
-ghost use Rattle.file.specs.Plan.{refusedPlan, taken, closed as closedOf, afterLosses, afterNeeded, afterProposals, planOf};
+ghost use Rattle.file.specs.Plan.{refusedPlan, taken, closedOf, afterLosses, afterNeeded, afterProposals, planOf};
 use crate::sections::byte_at;
 use crate::sections::coins;
 use crate::sections::count_at;

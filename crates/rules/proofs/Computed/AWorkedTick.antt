@@ -2,7 +2,7 @@
 -- demand's own statement is false at one of them. The cases are document 01's.
 use Prim.Native.Nat.{ℕ}
 use mathlib.Core.Path.{_≡_, refl}
-use mathlib.Core.List.{List, [], _∷_, _++_}
+use mathlib.Core.List.{List, [], _∷_}
 use Rattle.rules.specs.declared.Value.{Value}
 use Rattle.rules.specs.declared.Value.the-variants.{Zero, One, Blank}
 use Rattle.rules.specs.declared.Status.{Status}
@@ -11,7 +11,7 @@ use Rattle.rules.specs.declared.Decision.{Decision}
 use Rattle.rules.specs.declared.Decision.the-variants.{One as ForOne, Unwritten as none}
 use Rattle.rules.specs.declared.Ballot.{Ballot}
 use Rattle.rules.specs.Algorithm.{Process, processWith}
-use Rattle.rules.specs.History.{Handed, headAfter, acceptedOf, ballotsIn, processAfter, Shows}
+use Rattle.rules.specs.History.{Handed, headAfter, acceptedOf, processAfter, Shows}
 use Rattle.rules.proofs.Computed.Computing.{computing, shows}
 use Rattle.rules.specs.Ballot.{encode}
 use Rattle.rules.specs.Sixteen.{ballot}

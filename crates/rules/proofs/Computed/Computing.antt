@@ -2,7 +2,6 @@
 -- head to what the demands say of it.
 use Prim.Native.Nat.{ℕ, zero, suc, _<_}
 use mathlib.Core.Path.{_≡_, sym, ap, subst, _∙_}
-use mathlib.Core.List.{List, [], _∷_, _++_}
 use mathlib.Core.Bool.{Bool, false}
 use mathlib.Core.Logic.{_↔_}
 use native.Mathlib.Decide.{decLt}
@@ -10,8 +9,6 @@ use native.Mathlib.Omega.{arith}
 use lib.Dec.{leb}
 use Rattle.rules.specs.declared.Value.{Value}
 use Rattle.rules.specs.declared.Value.the-variants.{Zero, One, Blank}
-use Rattle.rules.specs.declared.Status.{Status}
-use Rattle.rules.specs.declared.Ballot.{Ballot}
 use Rattle.rules.specs.declared.Head.{Head}
 use Rattle.rules.specs.Number.{firstThatApplies}
 use Rattle.rules.specs.Below.{first, count}

@@ -7,13 +7,12 @@ use lib.ListN.{replicate}
 use Rattle.rules.specs.declared.Value.the-variants.{Zero, One, Blank}
 use Rattle.rules.specs.declared.Status.the-variants.{Undecided as u, Decided as d}
 use Rattle.rules.specs.declared.Decision.the-variants.{Zero as ForZero, One as ForOne, Unwritten as none}
-use Rattle.rules.specs.declared.Ballot.{Ballot}
 use Rattle.rules.specs.declared.Head.{Head}
-use Rattle.rules.specs.Ballot.{bytesOf, encode, readNumber}
+use Rattle.rules.specs.Ballot.{encode, readNumber}
 use Rattle.rules.specs.Head.{headWith, nobody, zeroHead, startNumber, sendOf}
 use Rattle.rules.specs.Tick.{tickNumber, tickOf}
-use Rattle.rules.specs.Record.{recordOf, startNumberFromC, recordAfterStart, tickNumberFromC, recordAfterTick, sendNumberFromC, bufferAfterSend}
-use Rattle.rules.specs.Sixteen.{ballot, start, head, holding, underOne}
+use Rattle.rules.specs.Record.{startNumberFromC, recordAfterStart, tickNumberFromC, recordAfterTick, sendNumberFromC, bufferAfterSend}
+use Rattle.rules.specs.Sixteen.{ballot, start, head, holding}
 use Rattle.rules.proofs.Computed.Computing.{computing}
 
 -- the number that an entry gives, and the one that document 01 gives

@@ -7,8 +7,8 @@ use native.Mathlib.Numerals.{one-add}
 use native.Mathlib.Decide.{decLt}
 use native.Mathlib.Omega.{arith}
 use lib.Dec.{eqb, lit<, eqb·zero-suc, eqb·suc-zero, eqb·suc-suc}
-use lib.Pow.{shl-exact, shl-shr, shr-shr, shr-le, shr-mono, pow-lt}
-use lib.Bits.{bitAnd, bitOr, and-step, or-step, or-lt, and-lt, or-shr, and-shr}
+use lib.Pow.{shl-exact, shl-shr, shr-shr, shr-le, shr-mono}
+use lib.Bits.{bitAnd, bitOr, and-step, or-step, and-lt, or-shr, and-shr}
 use lib.Count.{ones, onesIn, ones-step}
 use borrow.Author.Tests.{eq-eqb, ne-eqb, eqb-true, eqb-false, lt-ltb, ltb-true}
 use Rattle.rules.specs.Below.{some, count}

@@ -2,7 +2,7 @@
 use Prim.Native.Nat.{ℕ, zero, suc, _+_, _*_, _/_, _%_, _<_}
 use mathlib.Core.Path.{_≡_, refl, sym, ap, _∙_}
 use mathlib.Core.List.{List, [], _∷_}
-use mathlib.Core.Bool.{true, false}
+use mathlib.Core.Bool.{false}
 use native.Mathlib.Nat.{div-add-mod'}
 use native.Mathlib.Omega.{arith}
 use lib.ListN.{length, getD}
@@ -13,7 +13,7 @@ use Rattle.rules.specs.declared.Read.{Read}
 use Rattle.rules.specs.declared.Read.the-variants.{Accepted, Refused}
 use Rattle.rules.specs.Number.{firstThatApplies}
 use Rattle.rules.specs.Ballot.{valueCode, statusCode, ballotAt, bytesOf, breaksRule, readNumber, readBallot, zeroBallot, numberRead, ballotRead, Bytes}
-use Rattle.rules.specs.Head.{sound, ballotOf, sendOf}
+use Rattle.rules.specs.Head.{ballotOf, sendOf}
 use Rattle.rules.specs.Given.{Heads, Obeys, Sound, phase-1, phase-2, odd-from-3, even-from-4}
 use Rattle.rules.proofs.Counting.Truth.{not-false}
 use Rattle.rules.proofs.Meaning.Meanings.{value-back, status-back, means-heads, means-obeys, means-sound}

@@ -16,7 +16,7 @@ use Rattle.rules.specs.Ballot.{phaseAt, ballotAt, breaksRule, readNumber
 use Rattle.rules.specs.Heard.{member, heard}
 use Rattle.rules.specs.Head.{sound, heardAs, standsUnder, ballotOf, startNumber, sendOf}
 use Rattle.rules.specs.Tick.{ballots, gathered, stepped, quorum, notList, sameState, ownOtherwise, differ, heldOtherwise, contradicts, bothHeard, phasesEnd, decidesOtherwise, tickNumber}
-use Rattle.rules.specs.Given.{Row, _exactly-at_, At, _exactly-when_, Given, Sound, Breaks, Hears, Other, OwnOtherwise, Differ, HeldOtherwise, SomeBallot, TwoBallots, HeardAtAll, Quorum, DecidesOtherwise, startTable, readTable, sendTable, tickTable}
+use Rattle.rules.specs.Given.{Row, _exactly-at_, At, Given, Sound, Breaks, Hears, Other, OwnOtherwise, Differ, HeldOtherwise, SomeBallot, TwoBallots, HeardAtAll, Quorum, DecidesOtherwise, startTable, readTable, sendTable, tickTable}
 use Rattle.rules.proofs.Counting.Truth.{Means, never, means-as, means-and, means-or, means-not, means-not-both, means-lt, means-le, means-eq, false-not}
 use Rattle.rules.proofs.Counting.Below.{means-some}
 use Rattle.rules.proofs.Counting.Sets.{means-any}

@@ -1,7 +1,7 @@
 -- How high the phases of a run are: each tick raises the highest by one at most. So a run of a few thousand ticks, such
 -- as the bench's, is far from phase 65,536, and none of its ticks is refused.
 use Prim.Native.Nat.{ℕ, _+_, _≤_, _<_}
-use mathlib.Core.Path.{_≡_, refl, sym, ap, subst, _∙_}
+use mathlib.Core.Path.{_≡_, refl, ap}
 use mathlib.Core.List.{List, [], _∷_}
 use mathlib.Core.Bool.{Bool, true, false, cond}
 use mathlib.Core.Logic.{inl, inr}

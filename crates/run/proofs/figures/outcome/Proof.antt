@@ -1,5 +1,5 @@
 use borrow.Author.Needs.{needs}
-use Rattle.file.specs.Figures.{outcomeIn}
+use Rattle.run.specs.Figures.{outcomeIn}
 use Rattle.run.proofs.figures.outcome.Statement.{statement}
 use Rattle.run.proofs.figures.outcome.Tie as tie
 

@@ -54,7 +54,21 @@ with-word-requires-4 c κs = search needs
 
 returns : tie.Need-returns
 unfolding headLine withAll
-returns c = (simp (c .with-word4 .ensures .0, c .before .before .with-decision .ensures .0, c .before .before .before .with-word3 .ensures .0, c .before .before .before .before .before .with-status .ensures .0, c .before .before .before .before .before .before .with-word2 .ensures .0, c .before .before .before .before .before .before .before .before .with-value .ensures .0, c .before .before .before .before .before .before .before .before .before .with-word .ensures .0, c .before .before .before .before .before .before .before .before .before .before .before .with-figure2 .ensures .0, c .before .before .before .before .before .before .before .before .before .before .before .before .before .before .with-figure .ensures .0), c .with-word4 .ensures .1)
+returns c = (
+  simp (
+    c .with-word4 .ensures .0,
+    c .before .before .with-decision .ensures .0,
+    c .before .before .before .with-word3 .ensures .0,
+    c .before .before .before .before .before .with-status .ensures .0,
+    c .before .before .before .before .before .before .with-word2 .ensures .0,
+    c .before .before .before .before .before .before .before .before .with-value .ensures .0,
+    c .before .before .before .before .before .before .before .before .before .with-word .ensures .0,
+    c .before .before .before .before .before .before .before .before .before .before .before .with-figure2 .ensures .0,
+    c .before .before .before .before .before .before .before .before .before .before
+        .before .before .before .before .with-figure .ensures .0,
+  ),
+  c .with-word4 .ensures .1,
+)
 
 pub head-line-spec : {M : Type 1} → statement M
 head-line-spec =

@@ -12,11 +12,14 @@ use Rattle.run.proofs.Texts.{all-append}
 use Rattle.run.proofs.lines.head_lines.Statement.{statement}
 use Rattle.run.proofs.lines.head_lines.Tie as tie
 
-line-more : (text lines : Text) (heads : List Head) (s : ℕ) → lines ≡ withAll text (headLines s heads) → withAll lines (headLine s (headOf heads s)) ≡ withAll text (headLines (s + 1) heads)
+line-more : (text lines : Text) (heads : List Head) (s : ℕ) → lines ≡ withAll text (headLines s heads)
+    → withAll lines (headLine s (headOf heads s)) ≡ withAll text (headLines (s + 1) heads)
 unfolding headLines
 line-more text lines heads s e =
     let more : s + 1 ≡ suc s = omega arith in
-    ap (λ (t : Text). withAll t (headLine s (headOf heads s))) e ∙ all-append text (headLines s heads) (headLine s (headOf heads s)) ∙ ap (λ (k : ℕ). withAll text (headLines k heads)) (sym more)
+    ap (λ (t : Text). withAll t (headLine s (headOf heads s))) e
+    ∙ all-append text (headLines s heads) (headLine s (headOf heads s))
+    ∙ ap (λ (k : ℕ). withAll text (headLines k heads)) (sym more)
 
 abbrev Inv-loop : tie.InvT-loop
 Inv-loop n heads lines₀ s₀ lines s = (s ≤ n) × (lines ≡ withAll lines₀ (headLines s heads)) × Held lines
@@ -48,8 +51,11 @@ loop-again c = let e = c .before .before .before .loop .inv in
     (omega arith, c .head-line .ensures .0 ∙ line-more _ _ _ _ (e .1), c .head-line .ensures .1)
 
 returns : tie.Need-returns Inv-loop μ-loop
-returns c = let e = c .before .loop .inv in
-    (e .1 ∙ ap (λ (k : ℕ). withAll (c .before .before .args .text) (headLines k (c .before .before .args .t2))) (le-antisymm (e .0) (c .loop-test .left)), e .2)
+returns c = let e = c .before .loop .inv in (
+  e .1 ∙ ap (λ (k : ℕ). withAll (c .before .before .args .text) (headLines k (c .before .before .args .t2)))
+      (le-antisymm (e .0) (c .loop-test .left)),
+  e .2,
+)
 
 pub head-lines-spec : {M : Type 1} → statement M
 head-lines-spec =

@@ -30,7 +30,15 @@ with-word-requires c κs = search needs
 
 returns : tie.Need-returns
 unfolding lastLine withAll
-returns c = (simp (c .with-word .ensures .0, c .before .before .with-figure3 .ensures .0, c .before .before .before .before .with-figure2 .ensures .0, c .before .before .before .before .before .before .with-figure .ensures .0), c .with-word .ensures .1)
+returns c = (
+  simp (
+    c .with-word .ensures .0,
+    c .before .before .with-figure3 .ensures .0,
+    c .before .before .before .before .with-figure2 .ensures .0,
+    c .before .before .before .before .before .before .with-figure .ensures .0,
+  ),
+  c .with-word .ensures .1,
+)
 
 pub last-line-spec : {M : Type 1} → statement M
 last-line-spec =

@@ -27,7 +27,14 @@ with-word-requires c κs = search needs
 
 returns : tie.Need-returns
 unfolding refusalLine withAll
-returns c = (simp (c .with-word .ensures .0, c .before .before .with-figure2 .ensures .0, c .before .before .before .before .with-figure .ensures .0), c .with-word .ensures .1)
+returns c = (
+  simp (
+    c .with-word .ensures .0,
+    c .before .before .with-figure2 .ensures .0,
+    c .before .before .before .before .with-figure .ensures .0,
+  ),
+  c .with-word .ensures .1,
+)
 
 pub refusal-line-spec : {M : Type 1} → statement M
 refusal-line-spec =

@@ -16,19 +16,32 @@ refusal-line-requires : tie.Need-refusal-line-requires
 refusal-line-requires c κs = search needs
 
 returns : tie.Need-returns
-returns c = refusal-is-report _ (c .before .before .before .before .before .run-file .result) (c .before .before .before .before .before .run-file .ensures) _ _ (c .before .before .before .empty .ensures .0) (c .before .if1 .taken) (c .refusal-line .ensures .0)
+returns c =
+    refusal-is-report _ (c .before .before .before .before .before .run-file .result)
+    (c .before .before .before .before .before .run-file .ensures) _ _ (c .before .before .before .empty .ensures .0)
+    (c .before .if1 .taken) (c .refusal-line .ensures .0)
 
 first-line-requires : tie.Need-first-line-requires
 first-line-requires c κs = search needs
 
 head-lines-requires : tie.Need-head-lines-requires
-head-lines-requires c κs = (subst (λ (d : Benched). d .outcome .n ≤ 32) (sym (c .before .before .before .before .before .before .run-file .ensures)) (benched-few _), c .first-line .ensures .1)
+head-lines-requires c κs = (
+  subst (λ (d : Benched). d .outcome .n ≤ 32)
+      (sym (c .before .before .before .before .before .before .run-file .ensures))
+      (benched-few _),
+  c .first-line .ensures .1,
+)
 
 last-line-requires : tie.Need-last-line-requires
 last-line-requires c κs = search needs
 
 returns-2 : tie.Need-returns-2
-returns-2 c = lines-report _ (c .before .before .before .before .before .before .before .before .run-file .result) (c .before .before .before .before .before .before .before .before .run-file .ensures) _ _ _ _ (c .before .before .before .before .before .before .empty .ensures .0) (c .before .before .before .before .if1 .left) (c .before .before .first-line .ensures .0) (c .before .head-lines .ensures .0) (c .last-line .ensures .0)
+returns-2 c =
+    lines-report _ (c .before .before .before .before .before .before .before .before .run-file .result)
+    (c .before .before .before .before .before .before .before .before .run-file .ensures) _ _ _ _
+    (c .before .before .before .before .before .before .empty .ensures .0)
+    (c .before .before .before .before .if1 .left) (c .before .before .first-line .ensures .0)
+    (c .before .head-lines .ensures .0) (c .last-line .ensures .0)
 
 pub report-spec : {M : Type 1} → statement M
 report-spec =

@@ -25,10 +25,18 @@ with-word-requires-2 : tie.Need-with-word-requires-2
 with-word-requires-2 c κs = search needs
 
 returns : tie.Need-returns
-returns c = (c .with-word .ensures .0 ∙ sym (ap (λ (v : Status). withWord (c .before .before .before .before .args .text) (statusWord v)) (c .before .before .enum-told .given .1)), c .with-word .ensures .1)
+returns c = (
+  c .with-word .ensures .0 ∙ sym (ap (λ (v : Status). withWord (c .before .before .before .before .args .text)
+      (statusWord v)) (c .before .before .enum-told .given .1)),
+  c .with-word .ensures .1,
+)
 
 returns-2 : tie.Need-returns-2
-returns-2 c = (c .with-word2 .ensures .0 ∙ sym (ap (λ (v : Status). withWord (c .before .before .before .before .args .text) (statusWord v)) (c .before .before .enum-told2 .given .1)), c .with-word2 .ensures .1)
+returns-2 c = (
+  c .with-word2 .ensures .0 ∙ sym (ap (λ (v : Status). withWord (c .before .before .before .before .args .text)
+      (statusWord v)) (c .before .before .enum-told2 .given .1)),
+  c .with-word2 .ensures .1,
+)
 
 pub with-status-spec : {M : Type 1} → statement M
 with-status-spec =

@@ -34,13 +34,25 @@ with-word-requires-3 : tie.Need-with-word-requires-3
 with-word-requires-3 c κs = search needs
 
 returns : tie.Need-returns
-returns c = (c .with-word .ensures .0 ∙ sym (ap (λ (v : Value). withWord (c .before .before .before .before .args .text) (valueWord v)) (c .before .before .enum-told .given .1)), c .with-word .ensures .1)
+returns c = (
+  c .with-word .ensures .0 ∙ sym (ap (λ (v : Value). withWord (c .before .before .before .before .args .text)
+      (valueWord v)) (c .before .before .enum-told .given .1)),
+  c .with-word .ensures .1,
+)
 
 returns-2 : tie.Need-returns-2
-returns-2 c = (c .with-word2 .ensures .0 ∙ sym (ap (λ (v : Value). withWord (c .before .before .before .before .args .text) (valueWord v)) (c .before .before .enum-told2 .given .1)), c .with-word2 .ensures .1)
+returns-2 c = (
+  c .with-word2 .ensures .0 ∙ sym (ap (λ (v : Value). withWord (c .before .before .before .before .args .text)
+      (valueWord v)) (c .before .before .enum-told2 .given .1)),
+  c .with-word2 .ensures .1,
+)
 
 returns-3 : tie.Need-returns-3
-returns-3 c = (c .with-word3 .ensures .0 ∙ sym (ap (λ (v : Value). withWord (c .before .before .before .before .args .text) (valueWord v)) (c .before .before .enum-told3 .given .1)), c .with-word3 .ensures .1)
+returns-3 c = (
+  c .with-word3 .ensures .0 ∙ sym (ap (λ (v : Value). withWord (c .before .before .before .before .args .text)
+      (valueWord v)) (c .before .before .enum-told3 .given .1)),
+  c .with-word3 .ensures .1,
+)
 
 pub with-value-spec : {M : Type 1} → statement M
 with-value-spec =

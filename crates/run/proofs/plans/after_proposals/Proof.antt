@@ -3,7 +3,7 @@ use mathlib.Core.Path.{sym, ap, _∙_}
 use native.Mathlib.Omega.{arith}
 use borrow.Author.Needs.{needs}
 use Rattle.file.specs.Plan.{afterNeeded, afterProposals}
-use Rattle.file.proofs.Sections.{needed-body}
+use Rattle.file.proofs.reading.Sections.{needed-body}
 use Rattle.run.proofs.Planning.{refused-section, next-section}
 use Rattle.run.proofs.plans.after_proposals.Statement.{statement}
 use Rattle.run.proofs.plans.after_proposals.Tie as tie

@@ -1,6 +1,6 @@
 use borrow.Author.Tests.{lt-ltb, le-ltb}
 use borrow.Author.Needs.{needs}
-use Rattle.file.specs.Plan.{closed}
+use Rattle.file.specs.Plan.{closedOf}
 use Rattle.run.proofs.plans.closed.Statement.{statement}
 use Rattle.run.proofs.plans.closed.Tie as tie
 
@@ -8,18 +8,18 @@ refused-requires : tie.Need-refused-requires
 refused-requires c κs = search needs
 
 returns : tie.Need-returns
-unfolding closed
+unfolding closedOf
 returns c = simp (lt-ltb _ _ (c .before .if1 .taken), c .refused .ensures)
 
 refused-requires-2 : tie.Need-refused-requires-2
 refused-requires-2 c κs = search needs
 
 returns-2 : tie.Need-returns-2
-unfolding closed
+unfolding closedOf
 returns-2 c = simp (le-ltb _ _ (c .before .before .before .if1 .left), lt-ltb _ _ (c .before .if2 .taken)) (c .refused2 .ensures)
 
 returns-3 : tie.Need-returns-3
-unfolding closed
+unfolding closedOf
 returns-3 c = simp (le-ltb _ _ (c .before .before .if1 .left), le-ltb _ _ (c .if2 .left))
 
 pub closed-spec : {M : Type 1} → statement M

@@ -2,7 +2,7 @@ use mathlib.Core.Path.{sym, _∙_}
 use native.Mathlib.Omega.{arith}
 use borrow.Author.Needs.{needs}
 use Rattle.file.specs.Plan.{planOf}
-use Rattle.file.proofs.Sections.{proposals-body}
+use Rattle.file.proofs.reading.Sections.{proposals-body}
 use Rattle.run.proofs.Planning.{refused-section, next-section}
 use Rattle.run.proofs.plans.plan_of.Statement.{statement}
 use Rattle.run.proofs.plans.plan_of.Tie as tie

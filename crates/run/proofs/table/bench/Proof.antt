@@ -45,7 +45,8 @@ use Rattle.file.specs.declared.Plan.{Plan}
 use Rattle.file.specs.declared.Outcome.{Outcome}
 use Rattle.file.specs.Plan.{planOf}
 use Rattle.file.specs.Table.{startsIn, roundsIn, tableAfter}
-use Rattle.file.specs.Figures.{decidedIn, outcomeIn, outcomeOf}
+use Rattle.file.specs.Figures.{decidedIn, outcomeOf}
+use Rattle.run.specs.Figures.{outcomeIn}
 use Rattle.run.specs.declared.heads.Survey.{Survey}
 use Rattle.run.specs.Survey.{surveyOf}
 use Rattle.run.specs.Small.{Small}
@@ -110,7 +111,7 @@ table-is file table begun last p ep e₁ e₂ =
 
 -- and so is the answer
 answer-is : Counts → (file : List ℕ) (table last : List Head) (p : Plan) (v : Survey) → p ≡ planOf file (length table) → last ≡ tableAfter file table → v ≡ surveyOf (p .n) last → outcomeIn file p (v .decided) ≡ outcomeOf file table
-unfolding outcomeOf
+unfolding outcomeOf outcomeIn
 answer-is counts file table last p v ep ez ev =
     ap (λ (d : ℕ). outcomeIn file p d) (ap (λ (v′ : Survey). v′ .decided) ev ∙ counts (p .n) last)
     ∙ (ap (λ (zs : List Head). outcomeIn file p (decidedIn zs (p .n))) ez ∙ ap (λ (p′ : Plan). outcomeIn file p′ (decidedIn (tableAfter file table) (p′ .n))) ep)

@@ -45,7 +45,7 @@ use Rattle.file.specs.declared.Plan.{Plan}
 use Rattle.file.specs.Table.{rowsIn, coinsIn, roundIn, roundsIn}
 use Rattle.run.specs.Small.{Small}
 use Rattle.run.proofs.Calling.{table-left, of-first}
-use Rattle.file.proofs.Placing.{rounds-length}
+use Rattle.file.proofs.running.Placing.{rounds-length}
 use Rattle.run.proofs.Walking.{R, planRow, machP, plan-lawful, plan-tells, tableTy, bytesTy, planTy, bytesVal, Bytes, Table, count-owned, plan-owned, answered, bytes-copied, table-lent, table-back, Upto, Nearer, Nearer-wf, fits, next, nearer, next-fits, within, at-end, one-more, after}
 use Rattle.run.proofs.heads.rows_of as rows-of
 use Rattle.run.proofs.heads.rows_of.Symbol as rows-of-def

@@ -40,7 +40,7 @@ use denote.Triple.Walked.{says, needs, Stays, stay-none, stay-slice, stay-none-s
 use denote.Exit.{yes}
 use Rattle.rules.specs.declared.Head.{Head}
 use Rattle.file.specs.Table.{placed, startIn}
-use Rattle.file.proofs.Placing.{placed-length}
+use Rattle.file.proofs.running.Placing.{placed-length}
 use Rattle.run.proofs.Walking.{R, headSize, head-lawful, headTy, tableTy, bytesTy, bytesVal, Bytes, count-owned, answered, bytes-copied, head-out, head-put, table-closed, Upto, Nearer, Nearer-wf, fits, next, nearer, next-fits, within, place-fits, at-end, one-more, after}
 use Rattle.run.proofs.heads.started as started
 use Rattle.run.proofs.heads.started.Symbol as started-def

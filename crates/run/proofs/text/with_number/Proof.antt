@@ -4,7 +4,7 @@ use native.Mathlib.Omega.{arith}
 use borrow.Author.Needs.{needs}
 use Rattle.io.specs.Digits.{digits, Fewest}
 use Rattle.file.specs.Report.{decimal}
-use Rattle.file.proofs.Decimals.{places-is}
+use Rattle.file.proofs.printing.Decimals.{places-is}
 use Rattle.run.specs.Writing.{withWord}
 use Rattle.run.proofs.text.with_number.Statement.{statement}
 use Rattle.run.proofs.text.with_number.Tie as tie
@@ -30,8 +30,12 @@ with-word-requires c κs = search needs
 
 returns : tie.Need-returns
 returns c = let d = c .before .before .decimal .ensures in
-    let n = c .before .before .before .before .args .number in
-    (c .with-word .ensures .0 ∙ ap (withWord (c .before .before .before .before .args .text)) (d .1 .1 ∙ digits-are n (c .before .before .decimal .result) (d .1 .0) (small-number (c .before .before .before .before .fits .number .fits))), c .with-word .ensures .1)
+    let n = c .before .before .before .before .args .number in (
+      c .with-word .ensures .0 ∙ ap (withWord (c .before .before .before .before .args .text))
+          (d .1 .1 ∙ digits-are n (c .before .before .decimal .result) (d .1 .0)
+          (small-number (c .before .before .before .before .fits .number .fits))),
+      c .with-word .ensures .1,
+    )
 
 pub with-number-spec : {M : Type 1} → statement M
 with-number-spec =

@@ -24,16 +24,32 @@ least-requires : tie.Need-least-requires Inv-loop μ-loop
 least-requires c κs = search needs
 
 loop-holds : tie.Need-loop-holds Inv-loop μ-loop
-loop-holds c = (omega arith, paste-zero (c .before .before .before .args .text .bytes) (c .before .before .before .args .text .length) (c .before .before .before .args .word .now))
+loop-holds c = (
+  omega arith,
+  paste-zero (c .before .before .before .args .text .bytes)
+      (c .before .before .before .args .text .length) (c .before .before .before .args .word .now),
+)
 
 shared-slice-read-bytes : tie.Need-shared-slice-read-bytes Inv-loop μ-loop
 shared-slice-read-bytes c = omega (arith, c .before .before .before .before .least .ensures .0)
 
 add-bytes : tie.Need-add-bytes Inv-loop μ-loop
-add-bytes c = record { fits = omega (arith, c .before .before .before .before .least .ensures .0, c .before .before .before .before .before .before .pre .1) }
+add-bytes c =
+    record {
+      fits = omega (
+        arith,
+        c .before .before .before .before .least .ensures .0,
+        c .before .before .before .before .before .before .pre .1,
+      );
+    }
 
 array-write-bytes : tie.Need-array-write-bytes Inv-loop μ-loop
-array-write-bytes c = omega (arith, c .before .before .before .before .least .ensures .0, c .before .before .before .before .before .before .pre .1)
+array-write-bytes c =
+    omega (
+      arith,
+      c .before .before .before .before .least .ensures .0,
+      c .before .before .before .before .before .before .pre .1,
+    )
 
 add-i : tie.Need-add-i Inv-loop μ-loop
 add-i c = omega arith
@@ -46,18 +62,38 @@ loop-again c = let text = c .before .before .before .before .before .before .arg
     let word = c .before .before .before .before .before .before .args .word .now in
     let i = c .before .before .loop .i in
     let more : i + 1 ≡ suc i = omega arith in
-    let inside : text .length + i < length (text .bytes) = omega (arith, c .before .before .before .before .least .ensures .0, c .before .before .before .before .before .before .pre .0, c .before .before .before .before .before .before .pre .1) in
-    let some : i < length word = omega (arith, c .before .before .before .before .least .ensures .0) in
-    (omega arith, ap (λ (bytes : List ℕ). set bytes (text .length + i) (getD word i 0)) (c .before .before .loop .inv .1) ∙ paste-suc (text .bytes) (text .length) word i 0 inside some ∙ ap (paste (text .bytes) (text .length) word) (sym more))
+    let inside : text .length + i < length (text .bytes) =
+    omega (
+      arith,
+      c .before .before .before .before .least .ensures .0,
+      c .before .before .before .before .before .before .pre .0,
+      c .before .before .before .before .before .before .pre .1,
+    ) in
+    let some : i < length word = omega (arith, c .before .before .before .before .least .ensures .0) in (
+      omega arith,
+      ap (λ (bytes : List ℕ). set bytes (text .length + i) (getD word i 0))
+          (c .before .before .loop .inv .1) ∙ paste-suc (text .bytes) (text .length) word i 0 inside some
+          ∙ ap (paste (text .bytes) (text .length) word) (sym more),
+    )
 
 add-t7 : tie.Need-add-t7 Inv-loop μ-loop
-add-t7 c = record { fits = omega (arith, c .before .before .before .least .ensures .0, c .before .before .before .before .before .pre .1) }
+add-t7 c =
+    record {
+      fits = omega (
+        arith,
+        c .before .before .before .least .ensures .0,
+        c .before .before .before .before .before .pre .1,
+      );
+    }
 
 returns : tie.Need-returns Inv-loop μ-loop
 returns c = let text = c .before .before .before .before .before .args .text in
     let word = c .before .before .before .before .before .args .word .now in
-    let reached = le-antisymm (c .before .loop .inv .0) (c .loop-test .left) ∙ c .before .before .before .least .ensures .0 in
-    let is = written text word _ _ (c .before .loop .inv .1 ∙ ap (paste (text .bytes) (text .length) word) reached) (c .before .before .before .least .ensures .0) in
+    let reached =
+    le-antisymm (c .before .loop .inv .0) (c .loop-test .left) ∙ c .before .before .before .least .ensures .0 in
+    let is =
+    written text word _ _ (c .before .loop .inv .1 ∙ ap (paste (text .bytes) (text .length) word) reached)
+    (c .before .before .before .least .ensures .0) in
     (is, subst Held (sym is) (word-held text word (c .before .before .before .before .before .pre)))
 
 pub with-word-spec : {M : Type 1} → statement M

@@ -18,25 +18,39 @@ use Rattle.file.specs.declared.Section.{Section}
 use Rattle.file.specs.declared.Section.the-variants.{Body, Refused}
 use Rattle.file.specs.declared.Plan.{Plan}
 use Rattle.file.specs.declared.Outcome.{Outcome}
-use Rattle.file.specs.Section.{countAt, bodyOf, counted, checked, notBit, notNeed, notRow, proposalsOf, neededOf, lossesOf, coinsOf}
-use Rattle.file.specs.Plan.{refusedPlan, taken, closed, afterLosses, afterNeeded, afterProposals, planOf}
+use Rattle.file.specs.Section.{countAt, bodyOf, counted, checked, notBit, notNeed, notRow, proposalsOf, neededOf}
+use Rattle.file.specs.Section.{lossesOf, coinsOf}
+use Rattle.file.specs.Plan.{refusedPlan, taken, closedOf, afterLosses, afterNeeded, afterProposals, planOf}
 use Rattle.file.specs.Table.{tableAfter}
-use Rattle.file.specs.Figures.{boundOf, outcomeIn, outcomeOf}
+use Rattle.file.specs.Figures.{boundOf, outcomeOf}
 use Rattle.file.specs.Benched.{emptyTable}
 use Rattle.file.specs.Report.{joined, linesOf, reportOf}
-use Rattle.file.proofs.Sections.{ordered, in-order, proposals-body, needed-body, losses-body, coins-body}
-use Rattle.file.proofs.Plans.{accepted-file, refused-file}
-use Rattle.file.proofs.Placing.{after-nothing}
+use Rattle.file.proofs.reading.Sections.{ordered, in-order, proposals-body, needed-body, losses-body, coins-body}
+use Rattle.file.proofs.reading.Plans.{accepted-file, refused-file}
+use Rattle.file.proofs.running.Placing.{after-nothing}
 
 -- ---- a refused file's outcome is its number and place
 
-pub refused-outcome : (file : List ℕ) (table : List Head) (number place : ℕ) → planOf file (length table) ≡ refusedPlan number place
-    → outcomeOf file table ≡ record { number = number; place = place; n = 0; needed = 0; bound = boundOf 0 0; rounds = 0; good = 0; decided = 0 }
-unfolding outcomeOf outcomeIn count
+pub refused-outcome : (file : List ℕ) (table : List Head) (number place : ℕ) → planOf file (length table)
+    ≡ refusedPlan number place
+    → outcomeOf file table ≡ record {
+      number = number;
+      place = place;
+      n = 0;
+      needed = 0;
+      bound = boundOf 0 0;
+      rounds =
+          0;
+      good = 0;
+      decided = 0;
+    }
+unfolding outcomeOf count
 refused-outcome file table number place e = rw e refl
 
-pub refused-table : (file : List ℕ) (table : List Head) (number place : ℕ) → planOf file (length table) ≡ refusedPlan number place → tableAfter file table ≡ table
-refused-table file table number place e = after-nothing file table (ap (λ (p : Plan). p .n) e) (ap (λ (p : Plan). p .rounds) e)
+pub refused-table : (file : List ℕ) (table : List Head) (number place : ℕ)
+    → planOf file (length table) ≡ refusedPlan number place → tableAfter file table ≡ table
+refused-table file table number place e =
+    after-nothing file table (ap (λ (p : Plan). p .n) e) (ap (λ (p : Plan). p .rounds) e)
 
 -- ---- two files with the same first bytes
 
@@ -57,38 +71,60 @@ module _ (file : List ℕ) (m : ℕ) (enough : 41002 ≤ m) (longer : m < length
   body-same start size inside = ext-getD 0 (take size (drop start front)) (take size (drop start file)) long each
     where
       long : length (take size (drop start front)) ≡ length (take size (drop start file))
-      long = omega (arith, inside, longer, front-length, length-take size (drop start front), length-take size (drop start file), length-drop start front, length-drop start file)
+      long =
+          omega (
+            arith,
+            inside,
+            longer,
+            front-length,
+            length-take size (drop start front),
+            length-take size (drop start file),
+            length-drop start front,
+            length-drop start file,
+          )
 
-      each : (i : ℕ) → i < length (take size (drop start front)) → getD (take size (drop start front)) i 0 ≡ getD (take size (drop start file)) i 0
+      each : (i : ℕ) → i < length (take size (drop start front))
+          → getD (take size (drop start front)) i 0 ≡ getD (take size (drop start file)) i 0
       each i h =
           let low : i < size = omega (arith, h, length-take size (drop start front)) in
-          getD-take size (drop start front) i 0 low ∙ getD-drop start front i 0 ∙ byte-same (start + i) (omega (arith, low, inside)) ∙ sym (getD-drop start file i 0) ∙ sym (getD-take size (drop start file) i 0 low)
+          getD-take size (drop start front) i 0 low ∙ getD-drop start front i 0
+          ∙ byte-same (start + i) (omega (arith, low, inside)) ∙ sym (getD-drop start file i 0)
+          ∙ sym (getD-take size (drop start file) i 0 low)
 
   -- a section that ends in the first bytes is read alike
-  section-same : (at : ℕ) (breaks : Bool) (size width : ℕ) (test : List ℕ → ℕ → Bool) → at + 2 ≤ m → (breaks ≡ false → at + 2 + size ≤ m)
+  section-same : (at : ℕ) (breaks : Bool) (size width : ℕ) (test : List ℕ → ℕ → Bool) → at + 2 ≤ m
+      → (breaks ≡ false → at + 2 + size ≤ m)
       → checked front width test (counted front at breaks size) ≡ checked file width test (counted file at breaks size)
   unfolding checked
   section-same at breaks size width test h f =
       in-order front at breaks size width test
-      ∙ rw (le-ltb (length front) (at + 2) (omega (arith, front-length)), le-ltb (length file) (at + 2) (omega arith)) (go breaks f)
+      ∙ rw (le-ltb (length front) (at + 2) (omega (arith, front-length)), le-ltb (length file) (at + 2) (omega arith))
+      (go breaks f)
       ∙ sym (in-order file at breaks size width test)
     where
       go : (b : Bool) → (b ≡ false → at + 2 + size ≤ m)
-          → ordered front at false b (ltb (length front) (at + 2 + size)) (checked front width test (Body (at + 2) size))
+          → ordered front at false b (ltb (length front) (at + 2 + size))
+          (checked front width test (Body (at + 2) size))
           ≡ ordered file at false b (ltb (length file) (at + 2 + size)) (checked file width test (Body (at + 2) size))
       go true f = refl
       go false f =
           let e = f refl in
-          rw (le-ltb (length front) (at + 2 + size) (omega (arith, front-length)), le-ltb (length file) (at + 2 + size) (omega arith), body-same (at + 2) size e) refl
+          rw (
+            le-ltb (length front) (at + 2 + size) (omega (arith, front-length)),
+            le-ltb (length file) (at + 2 + size) (omega arith),
+            body-same (at + 2) size e,
+          ) refl
 
-  taken-same : (section : Section) (f g : ℕ → ℕ → Plan) → ((start size : ℕ) → section ≡ Body start size → f start size ≡ g start size) → taken section f ≡ taken section g
+  taken-same : (section : Section) (f g : ℕ → ℕ → Plan)
+      → ((start size : ℕ) → section ≡ Body start size → f start size ≡ g start size) → taken section f ≡ taken section g
   taken-same (Refused number place) f g same = refl
   taken-same (Body start size) f g same = same start size refl
 
   -- ---- the sections, the last first
 
-  losses-next : (room at n k rounds rows : ℕ) → at ≤ 32807 → n ≤ 32 → rounds ≤ 256 → afterLosses front room at n k rounds rows ≡ afterLosses file room at n k rounds rows
-  unfolding afterLosses coinsOf closed
+  losses-next : (room at n k rounds rows : ℕ) → at ≤ 32807 → n ≤ 32 → rounds ≤ 256
+      → afterLosses front room at n k rounds rows ≡ afterLosses file room at n k rounds rows
+  unfolding afterLosses coinsOf closedOf
   losses-next room at n k rounds rows low few short =
       ap (λ (section : Section). taken section next) section ∙ taken-same (coinsOf file at (rounds * n)) _ _ ends
     where
@@ -102,38 +138,51 @@ module _ (file : List ℕ) (m : ℕ) (enough : 41002 ≤ m) (longer : m < length
       made start = record { number = 0; place = 0; n = n; needed = k; rounds = rounds; losses = rows; coins = start }
 
       next : ℕ → ℕ → Plan
-      next start size = closed (length front) room (start + size) (made start)
+      next start size = closedOf (length front) room (start + size) (made start)
 
       section : coinsOf front at (rounds * n) ≡ coinsOf file at (rounds * n)
       section =
-          ap (λ (c : ℕ). checked front 1 notBit (counted front at (not (eqb c (rounds * n))) (rounds * n))) (count-same at (omega (arith, enough, low)))
-          ∙ section-same at _ (rounds * n) 1 notBit (omega (arith, enough, low)) (λ e. omega (arith, enough, low, products))
+          ap (λ (c : ℕ). checked front 1 notBit (counted front at (not (eqb c (rounds * n))) (rounds * n)))
+          (count-same at (omega (arith, enough, low)))
+          ∙ section-same at _ (rounds * n) 1 notBit (omega (arith, enough, low))
+          (λ e. omega (arith, enough, low, products))
 
-      ends : (start size : ℕ) → coinsOf file at (rounds * n) ≡ Body start size → next start size ≡ closed (length file) room (start + size) (made start)
+      ends : (start size : ℕ) → coinsOf file at (rounds * n) ≡ Body start size
+          → next start size ≡ closedOf (length file) room (start + size) (made start)
       ends start size e =
           let C = coins-body file at (rounds * n) start size e in
           let end : start + size ≤ 41001 = omega (arith, C .starts, C .sized, low, products) in
-          rw (lt-ltb (start + size) (length front) (omega (arith, end, enough, front-length)), lt-ltb (start + size) (length file) (omega (arith, end, enough, longer))) refl
+          rw (
+            lt-ltb (start + size) (length front) (omega (arith, end, enough, front-length)),
+            lt-ltb (start + size) (length file) (omega (arith, end, enough, longer)),
+          ) refl
 
   needed-next : (room at n k : ℕ) → at ≤ 37 → n ≤ 32 → afterNeeded front room at n k ≡ afterNeeded file room at n k
   unfolding afterNeeded lossesOf
   needed-next room at n k low few =
-      ap₂ (λ (section : Section) (rounds : ℕ). taken section (λ start size. afterLosses front room (start + size) n k rounds start)) section (count-same at (omega (arith, enough, low)))
+      ap₂ (λ (section : Section) (rounds : ℕ). taken section
+      (λ start size. afterLosses front room (start + size) n k rounds start)) section
+      (count-same at (omega (arith, enough, low)))
       ∙ taken-same (lossesOf file at n) _ _ (λ start size e.
       let L = losses-body file at n start size e in
       let products = mul-le-mul (L .rounds) few in
-      losses-next room (start + size) n k (countAt file at) start (omega (arith, L .starts, L .sized, low, products)) few (L .rounds))
+      losses-next room (start + size) n k (countAt file at) start
+      (omega (arith, L .starts, L .sized, low, products)) few (L .rounds))
     where
       section : lossesOf front at n ≡ lossesOf file at n
       section =
-          ap (λ (c : ℕ). checked front 4 (notRow n) (counted front at (ltb 256 c) (c * n * 4))) (count-same at (omega (arith, enough, low)))
-          ∙ section-same at (ltb 256 (countAt file at)) (countAt file at * n * 4) 4 (notRow n) (omega (arith, enough, low))
-          (λ e. let products = mul-le-mul (ltb-false 256 (countAt file at) e) few in omega (arith, enough, low, products))
+          ap (λ (c : ℕ). checked front 4 (notRow n) (counted front at (ltb 256 c) (c * n * 4)))
+          (count-same at (omega (arith, enough, low)))
+          ∙ section-same at (ltb 256 (countAt file at)) (countAt file at * n * 4) 4 (notRow n)
+          (omega (arith, enough, low))
+          (λ e. let products = mul-le-mul (ltb-false 256 (countAt file at) e) few in omega
+          (arith, enough, low, products))
 
   proposals-next : (room at n : ℕ) → at ≤ 34 → n ≤ 32 → afterProposals front room at n ≡ afterProposals file room at n
   unfolding afterProposals neededOf
   proposals-next room at n low few =
-      ap (λ (section : Section). taken section (λ start size. afterNeeded front room (start + size) n (getD front start 0))) section
+      ap (λ (section : Section). taken section
+      (λ start size. afterNeeded front room (start + size) n (getD front start 0))) section
       ∙ taken-same (neededOf file at n) _ _ (λ start size e.
       let N = needed-body file at n start size e in
       ap (afterNeeded front room (start + size) n) (byte-same start (omega (arith, enough, low, N .starts)))
@@ -141,8 +190,10 @@ module _ (file : List ℕ) (m : ℕ) (enough : 41002 ≤ m) (longer : m < length
     where
       section : neededOf front at n ≡ neededOf file at n
       section =
-          ap (λ (c : ℕ). checked front 1 (notNeed n) (counted front at (not (eqb c 1)) 1)) (count-same at (omega (arith, enough, low)))
-          ∙ section-same at (not (eqb (countAt file at) 1)) 1 1 (notNeed n) (omega (arith, enough, low)) (λ e. omega (arith, enough, low))
+          ap (λ (c : ℕ). checked front 1 (notNeed n) (counted front at (not (eqb c 1)) 1))
+          (count-same at (omega (arith, enough, low)))
+          ∙ section-same at (not (eqb (countAt file at) 1)) 1 1 (notNeed n) (omega (arith, enough, low))
+          (λ e. omega (arith, enough, low))
 
   pub plan-same : (room : ℕ) → planOf front room ≡ planOf file room
   unfolding planOf proposalsOf
@@ -156,7 +207,8 @@ module _ (file : List ℕ) (m : ℕ) (enough : 41002 ≤ m) (longer : m < length
       section : proposalsOf front ≡ proposalsOf file
       section =
           ap (λ (c : ℕ). checked front 1 notBit (counted front 0 (notHeads c) c)) (count-same 0 (omega (arith, enough)))
-          ∙ section-same 0 (notHeads (countAt file 0)) (countAt file 0) 1 notBit (omega (arith, enough)) (λ e. let few = heads (countAt file 0) e in omega (arith, enough, few))
+          ∙ section-same 0 (notHeads (countAt file 0)) (countAt file 0) 1 notBit (omega (arith, enough))
+          (λ e. let few = heads (countAt file 0) e in omega (arith, enough, few))
 
   -- a file that goes on is refused, and so is its front, by the same number at the same place
   goes-on : planOf file 32 .number ≡ 0 → ⊥
@@ -172,7 +224,8 @@ module _ (file : List ℕ) (m : ℕ) (enough : 41002 ≤ m) (longer : m < length
       let f = refused-outcome front emptyTable (R .number) (R .place) (plan-same 32 ∙ R .is) in
       let x = refused-table file emptyTable (R .number) (R .place) (R .is) in
       let y = refused-table front emptyTable (R .number) (R .place) (plan-same 32 ∙ R .is) in
-      ap₂ (λ (o : Outcome) (t : List Head). joined (linesOf (record { outcome = o; heads = t }))) (f ∙ sym e) (y ∙ sym x)
+      ap₂ (λ (o : Outcome) (t : List Head). joined (linesOf (record { outcome = o; heads = t }))) (f ∙ sym e)
+      (y ∙ sym x)
 
 -- 41,002 bytes decide
 pub the-first-bytes-decide : (file : List ℕ) (m : ℕ) → 41002 ≤ m → reportOf (take m file) ≡ reportOf file

@@ -1,0 +1,6 @@
+-- From the plan to the table.
+pub mod Placing
+pub mod BenchIsRun
+pub mod Deciding
+pub mod LostBallots
+pub mod TheTable
