@@ -12,7 +12,7 @@ use Rattle.rules.specs.Below.{first}
 use Rattle.rules.proofs.Below.{first-le}
 use Rattle.file.specs.declared.Section.{Section}
 use Rattle.file.specs.Section.{bodyOf, firstBroken, unlessBroken, checked, notBit, notNeed}
-use Rattle.run.specs.Sections.{outside}
+use Rattle.run.specs.Sections.{bodyMost, outside}
 
 pub checked-is : (file body : List ℕ) (section answer : Section) (width broken : ℕ) (breaks : List ℕ → ℕ → Bool) → body ≡ bodyOf file section → broken ≡ firstBroken body width breaks
     → answer ≡ unlessBroken section broken (length body / width) width → answer ≡ checked file width breaks section
@@ -31,7 +31,7 @@ by-one k p =
     once i = omega arith
 
 -- what is found is within what was searched
-pub found-small : (k broken : ℕ) (p : ℕ → Bool) → broken ≡ first k p → k ≤ 8388480 → broken ≤ 8388480
+pub found-small : (k broken : ℕ) (p : ℕ → Bool) → broken ≡ first k p → k ≤ bodyMost → broken ≤ bodyMost
 found-small k broken p e h = omega (arith, e, first-le k p)
 
 -- "0 or 1"

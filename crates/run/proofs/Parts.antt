@@ -12,7 +12,7 @@ use Rattle.file.specs.declared.Section.{Section}
 use Rattle.file.specs.declared.Section.the-variants.{Body, Refused}
 use Rattle.file.specs.Section.{bodyOf}
 use Rattle.run.specs.Survey.{keptBytes}
-use Rattle.run.specs.Sections.{Near}
+use Rattle.run.specs.Sections.{bodyMost, Near}
 
 take-least : (size : ℕ) (xs : List ℕ) → take (min size (length xs)) xs ≡ take size xs
 take-least size xs = go (decLt size (length xs))
@@ -95,6 +95,6 @@ kept-or-lost five l at false many h =
 -- ---- a section's body
 
 -- a near section's body is short
-pub near-short : (file : List ℕ) (section : Section) → Near section → length (bodyOf file section) ≤ 8388480
+pub near-short : (file : List ℕ) (section : Section) → Near section → length (bodyOf file section) ≤ bodyMost
 near-short file (Body start size) near = omega (arith, near .1, length-take size (drop start file))
 near-short file (Refused number place) near = omega arith

@@ -2,6 +2,7 @@
 ghost use mathlib.Core.Path.{_≡_};
 ghost use Prim.Native.Nat.{_≤_};
 ghost use lib.ListN.{length};
+ghost use Rattle.rules.specs.Sizes.{headsMost};
 ghost use Rattle.file.specs.Plan.{refusedPlan, taken, closed as closedOf, afterLosses, afterNeeded, afterProposals, planOf};
 use crate::sections::byte_at;
 use crate::sections::coins;
@@ -25,7 +26,7 @@ pub(crate) fn plan_of(file: &[u8], room: usize) -> Plan
 }
 
 fn after_proposals(file: &[u8], room: usize, at: usize, n: usize) -> Plan
-    requires { ⌜ (at ≤ 34) × (n ≤ 32) ⌝ }
+    requires { ⌜ (at ≤ 34) × (n ≤ headsMost) ⌝ }
     ensures { λ r. ⌜ r ≡ afterProposals (now (file .entry)) room at n ⌝ }
 {
     let section = needed(file, at, n);
@@ -37,7 +38,7 @@ fn after_proposals(file: &[u8], room: usize, at: usize, n: usize) -> Plan
 }
 
 fn after_needed(file: &[u8], room: usize, at: usize, n: usize, k: usize) -> Plan
-    requires { ⌜ (at ≤ 37) × (n ≤ 32) ⌝ }
+    requires { ⌜ (at ≤ 37) × (n ≤ headsMost) ⌝ }
     ensures { λ r. ⌜ r ≡ afterNeeded (now (file .entry)) room at n k ⌝ }
 {
     let section = losses(file, at, n);
@@ -57,7 +58,7 @@ fn after_losses(
     rounds: usize,
     rows: usize,
 ) -> Plan
-    requires { ⌜ (at ≤ 32807) × (n ≤ 32) × (rounds ≤ 256) ⌝ }
+    requires { ⌜ (at ≤ 32807) × (n ≤ headsMost) × (rounds ≤ 256) ⌝ }
     ensures { λ r. ⌜ r ≡ afterLosses (now (file .entry)) room at n k rounds rows ⌝ }
 {
     let section = coins(file, at, rounds * n);

@@ -1,17 +1,19 @@
 // The sections of a run file: "the count is read, then its rule tested, then the body's length, then
 // its bytes."
 ghost use mathlib.Core.Path.{_≡_};
-ghost use mathlib.Core.Bool.{_||_, not};
+ghost use mathlib.Core.Bool.{_||_};
 ghost use lib.Dec.{ltb};
 ghost use Prim.Native.Nat.{_*_, _/_, _≤_, min};
 ghost use lib.ListN.{length, getD, take, drop};
 ghost use Rattle.rules.specs.Below.{first};
-ghost use Rattle.rules.specs.Ballot.{notHeads};
-ghost use Rattle.rules.specs.Heard.{within};
+ghost use Rattle.rules.specs.Sizes.{headsMost, setBytes};
 ghost use Rattle.rules.specs.Record.{fourBytesAt};
 ghost use Rattle.file.specs.Section.{countAt, bodyOf, counted as countedOf, unlessBroken, checked, notRow, proposalsOf, neededOf, lossesOf, coinsOf};
-ghost use Rattle.run.specs.Sections.{Near, outside};
+ghost use Rattle.run.specs.Sections.{fileMost, countMost, bodyMost, Near, outside};
+use codes::SET_BYTES;
 use codes::four_bytes_of;
+use codes::not_heads;
+use codes::within;
 use file::Section;
 
 // "Count n (2 to 32), then n proposals (0 or 1)."
@@ -19,12 +21,12 @@ pub(crate) fn proposals(file: &[u8]) -> Section
     ensures { λ r. ⌜ r ≡ proposalsOf (now (file .entry)) ⌝ }
 {
     let n = count_at(file, 0);
-    checked_bytes(file, counted(file, 0, not_heads(n), n), 0, 1)
+    checked_bytes(file, counted(file, 0, not_heads(n as u32), n), 0, 1)
 }
 
 // "Count 1, then k, the heads needed: more than n/2, at most n."
 pub(crate) fn needed(file: &[u8], at: usize, n: usize) -> Section
-    requires { ⌜ (at ≤ 41001) × (n ≤ 32) ⌝ }
+    requires { ⌜ (at ≤ fileMost) × (n ≤ headsMost) ⌝ }
     ensures { λ r. ⌜ r ≡ neededOf (now (file .entry)) at n ⌝ }
 {
     let count = count_at(file, at);
@@ -33,16 +35,16 @@ pub(crate) fn needed(file: &[u8], at: usize, n: usize) -> Section
 
 // "Count of rounds, 0 to 256; per round n rows of 4 bytes"
 pub(crate) fn losses(file: &[u8], at: usize, n: usize) -> Section
-    requires { ⌜ (at ≤ 41001) × (n ≤ 32) ⌝ }
+    requires { ⌜ (at ≤ fileMost) × (n ≤ headsMost) ⌝ }
     ensures { λ r. ⌜ r ≡ lossesOf (now (file .entry)) at n ⌝ }
 {
     let rounds = count_at(file, at);
-    checked_rows(file, counted(file, at, 256 < rounds, rounds * n * 4), n)
+    checked_rows(file, counted(file, at, 256 < rounds, rounds * n * SET_BYTES), n)
 }
 
 // "Count n times rounds, then that many coins (0 or 1)"
 pub(crate) fn coins(file: &[u8], at: usize, count: usize) -> Section
-    requires { ⌜ (at ≤ 41001) × (count ≤ 8192) ⌝ }
+    requires { ⌜ (at ≤ fileMost) × (count ≤ 8192) ⌝ }
     ensures { λ r. ⌜ r ≡ coinsOf (now (file .entry)) at count ⌝ }
 {
     let read = count_at(file, at);
@@ -78,16 +80,16 @@ pub(crate) fn byte_at(file: &[u8], place: usize) -> u8
 
 // "a two-byte count, high byte first"
 pub(crate) fn count_at(file: &[u8], place: usize) -> usize
-    requires { ⌜ place ≤ 41001 ⌝ }
+    requires { ⌜ place ≤ fileMost ⌝ }
     ensures { λ r. ⌜ r ≡ countAt (now (file .entry)) place ⌝ }
-    ensures { λ r. ⌜ r ≤ 65535 ⌝ }
+    ensures { λ r. ⌜ r ≤ countMost ⌝ }
 {
     byte_at(file, place) as usize * 256 + byte_at(file, place + 1) as usize
 }
 
 // "rows of 4 bytes, high byte first"
 pub(crate) fn row_at(rows: &[u8], place: usize) -> u32
-    requires { ⌜ place ≤ 8388480 ⌝ }
+    requires { ⌜ place ≤ bodyMost ⌝ }
     ensures { λ r. ⌜ r ≡ fourBytesAt (now (rows .entry)) place ⌝ }
 {
     four_bytes_of(
@@ -100,7 +102,7 @@ pub(crate) fn row_at(rows: &[u8], place: usize) -> u32
 
 // The section whose count stands at a place, its bytes not yet looked at.
 fn counted(file: &[u8], at: usize, breaks: bool, size: usize) -> Section
-    requires { ⌜ (at ≤ 41001) × (size ≤ 8388480) ⌝ }
+    requires { ⌜ (at ≤ fileMost) × (size ≤ bodyMost) ⌝ }
     ensures { λ r. ⌜ r ≡ countedOf (now (file .entry)) at breaks size ⌝ }
     ensures { λ r. ⌜ Near r ⌝ }
 {
@@ -141,16 +143,16 @@ fn checked_bytes(file: &[u8], section: Section, low: usize, high: usize) -> Sect
 
 // The section, unless a row of its body has a bit from n up.
 fn checked_rows(file: &[u8], section: Section, n: usize) -> Section
-    requires { ⌜ Near section × (n ≤ 32) ⌝ }
-    ensures { λ r. ⌜ r ≡ checked (now (file .entry)) 4 (notRow n) section ⌝ }
+    requires { ⌜ Near section × (n ≤ headsMost) ⌝ }
+    ensures { λ r. ⌜ r ≡ checked (now (file .entry)) setBytes (notRow n) section ⌝ }
 {
     let rows = body(file, section);
     let broken = first_not_row(rows, n);
-    unless_broken(section, broken, rows.len() / 4, 4)
+    unless_broken(section, broken, rows.len() / SET_BYTES, SET_BYTES)
 }
 
 fn unless_broken(section: Section, broken: usize, pieces: usize, width: usize) -> Section
-    requires { ⌜ Near section × (broken ≤ 8388480) × (width ≤ 4) ⌝ }
+    requires { ⌜ Near section × (broken ≤ bodyMost) × (width ≤ setBytes) ⌝ }
     ensures { λ r. ⌜ r ≡ unlessBroken section broken pieces width ⌝ }
 {
     let Section::Body { start, length } = section else {
@@ -187,32 +189,18 @@ fn is_outside(byte: u8, low: usize, high: usize) -> bool
 
 // The first row with a bit from n up; where there is none, the number of rows.
 fn first_not_row(rows: &[u8], n: usize) -> usize
-    requires { ⌜ (length (now rows) ≤ 8388480) × (n ≤ 32) ⌝ }
-    ensures { λ r. ⌜ r ≡ first (length (now (rows .entry)) / 4) (λ i. notRow n (now (rows .entry)) (i * 4)) ⌝ }
+    requires { ⌜ (length (now rows) ≤ bodyMost) × (n ≤ headsMost) ⌝ }
+    ensures { λ r. ⌜ r ≡ first (length (now (rows .entry)) / setBytes) (λ i. notRow n (now (rows .entry)) (i * setBytes)) ⌝ }
 {
-    let count = rows.len() / 4;
+    let count = rows.len() / SET_BYTES;
     let mut i: usize = 0;
     while i < count {
-        if not_row(row_at(rows, i * 4), n) {
+        if !within(row_at(rows, i * SET_BYTES), n as u32) {
             return i;
         }
         i += 1;
     }
     i
-}
-
-// 64 bits, since n may be 32.
-fn not_row(row: u32, n: usize) -> bool
-    requires { ⌜ n ≤ 32 ⌝ }
-    ensures { λ r. ⌜ r ≡ not (within n row) ⌝ }
-{
-    !((row as u64) < 1u64 << n as u32)
-}
-
-fn not_heads(n: usize) -> bool
-    ensures { λ r. ⌜ r ≡ notHeads n ⌝ }
-{
-    !((2 <= n) & (n <= 32))
 }
 
 pub(crate) fn least(a: usize, b: usize) -> usize

@@ -6,6 +6,7 @@ use lib.Dec.{lit≤}
 use lib.ListN.{length}
 use borrow.Author.Needs.{needs}
 use Rattle.file.specs.Section.{unlessBroken}
+use Rattle.run.specs.Sections.{bodyMost}
 use Rattle.run.proofs.Parts.{near-short}
 use Rattle.run.proofs.Checking.{checked-is, by-one, found-small}
 use Rattle.run.proofs.sections.checked_bytes.Statement.{statement}
@@ -18,7 +19,7 @@ first-outside-requires : tie.Need-first-outside-requires
 first-outside-requires c κs = search needs
 
 unless-broken-requires : tie.Need-unless-broken-requires
-unless-broken-requires c κs = (c .before .before .before .pre, found-small _ _ _ (c .first-outside .ensures) (subst (λ (l : List ℕ). length l ≤ 8388480) (sym (c .before .body .ensures)) (near-short (c .before .before .before .args .file .now) (c .before .before .before .args .section) (c .before .before .before .pre))), lit≤ tt)
+unless-broken-requires c κs = (c .before .before .before .pre, found-small _ _ _ (c .first-outside .ensures) (subst (λ (l : List ℕ). length l ≤ bodyMost) (sym (c .before .body .ensures)) (near-short (c .before .before .before .args .file .now) (c .before .before .before .args .section) (c .before .before .before .pre))), lit≤ tt)
 
 returns : tie.Need-returns
 returns c = let bytes = c .before .before .body .result .now in
