@@ -39,7 +39,11 @@ pub(crate) fn losses(file: &[u8], at: usize, n: usize) -> Section
     ensures { λ r. ⌜ r ≡ lossesOf (now (file .entry)) at n ⌝ }
 {
     let rounds = count_at(file, at);
-    checked_rows(file, counted(file, at, 256 < rounds, rounds * n * SET_BYTES), n)
+    checked_rows(
+        file,
+        counted(file, at, 256 < rounds, rounds * n * SET_BYTES),
+        n,
+    )
 }
 
 // "Count n times rounds, then that many coins (0 or 1)"
