@@ -12,7 +12,11 @@ use Rattle.file.specs.declared.Section.the-variants.{Body, Refused}
 abbrev pub fileMost : ℕ
 fileMost = 41001
 
--- the largest that a count of two bytes can be
+-- "a two-byte count"
+abbrev pub countBytes : ℕ
+countBytes = 2
+
+-- the largest that such a count can be
 abbrev pub countMost : ℕ
 countMost = 65535
 
@@ -23,7 +27,7 @@ bodyMost = countMost * headsMost * setBytes
 
 -- a section's body starts right after a count that starts in a file, and is no longer than that
 abbrev pub Near : Section → Type 0
-Near (Body start length) = (start ≤ fileMost + 2) × (length ≤ bodyMost)
+Near (Body start length) = (start ≤ fileMost + countBytes) × (length ≤ bodyMost)
 Near (Refused number place) = Unit {0}
 
 -- a byte below low or above high

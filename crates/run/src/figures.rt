@@ -6,7 +6,7 @@ ghost use Rattle.rules.specs.Sizes.{headsMost};
 ghost use Rattle.file.specs.Figures.{lostIn, boundOf, goodIn, outcomeIn};
 ghost use Rattle.run.specs.Small.{Small};
 use crate::heads::Survey;
-use crate::heads::rows_of;
+use crate::plans::rows_of;
 use crate::sections::row_at;
 use codes::SET_BYTES;
 use codes::size;

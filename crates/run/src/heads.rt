@@ -4,11 +4,11 @@ ghost use Prim.Native.Nat.{_+_, _*_, _≤_, _<_};
 ghost use lib.ListN.{length, take, drop};
 ghost use lib.Seq.{sets};
 ghost use Rattle.rules.specs.Sizes.{headsMost, ballotBytes};
-ghost use Rattle.file.specs.Table.{startIn, rowsIn, coinsIn};
+ghost use Rattle.file.specs.Table.{startIn};
 ghost use Rattle.run.specs.Survey.{noSurvey, noted, keptBytes, receivedFrom, tickedBy};
-ghost use Rattle.run.specs.Small.{Small};
-use crate::sections::byte_at;
-use crate::sections::part;
+use crate::places::byte_at;
+use crate::places::part;
+use crate::sections::COUNT_BYTES;
 use crate::sections::row_at;
 use codes::BALLOT_BYTES;
 use codes::HEADS_MOST;
@@ -19,7 +19,6 @@ use codes::status_code;
 use engine::own_ballot;
 use engine::start;
 use engine::tick;
-use file::Plan;
 use rules::Head;
 
 // The ballots of as many heads as there can be.
@@ -32,11 +31,13 @@ pub struct Survey {
     pub decided: usize,
 }
 
+// Head i as it starts: its proposal is a byte of section 1's part.
 pub(crate) fn started(file: &[u8], n: usize, i: usize) -> Head
     requires { ⌜ (n ≤ headsMost) × (i < n) ⌝ }
     ensures { λ r. ⌜ r ≡ startIn (now (file .entry)) n i ⌝ }
 {
-    let proposal = byte_at(file, 2 + i);
+    let proposals = part(file, COUNT_BYTES, n);
+    let proposal = byte_at(proposals, i);
     let answer = start(n as u32, i as u32, proposal as u32);
     answer.head
 }
@@ -82,26 +83,6 @@ pub(crate) fn ticked(
     let length = received(&mut list, &before.ballots, row_at(rows, i * SET_BYTES), n);
     let answer = tick(head, &list[..length], coin as u32);
     answer.head
-}
-
-// "the loss rows of one round are a part from the middle of the file"
-pub(crate) fn rows_of<'a>(file: &'a [u8], plan: Plan, r: usize) -> &'a [u8]
-    requires { ⌜ Small plan × (r < 256) ⌝ }
-    ensures { λ s. ⌜ now s ≡ rowsIn (now (file .entry)) plan r ⌝ }
-{
-    let n = plan.n;
-    let from = plan.losses + r * n * SET_BYTES;
-    part(file, from, n * SET_BYTES)
-}
-
-// The coins of one round.
-pub(crate) fn coins_of<'a>(file: &'a [u8], plan: Plan, r: usize) -> &'a [u8]
-    requires { ⌜ Small plan × (r < 256) ⌝ }
-    ensures { λ s. ⌜ now s ≡ coinsIn (now (file .entry)) plan r ⌝ }
-{
-    let n = plan.n;
-    let from = plan.coins + r * n;
-    part(file, from, n)
 }
 
 // The ballots that are not lost, in sender order. The list comes with all of them, and stays so where

@@ -3,18 +3,23 @@
 ghost use mathlib.Core.Path.{_≡_};
 ghost use mathlib.Core.Bool.{_||_};
 ghost use lib.Dec.{ltb};
-ghost use Prim.Native.Nat.{_*_, _/_, _≤_, min};
-ghost use lib.ListN.{length, getD, take, drop};
+ghost use Prim.Native.Nat.{_+_, _*_, _/_, _≤_};
+ghost use lib.ListN.{length};
 ghost use Rattle.rules.specs.Below.{first};
 ghost use Rattle.rules.specs.Sizes.{headsMost, setBytes};
 ghost use Rattle.rules.specs.Record.{fourBytesAt};
-ghost use Rattle.file.specs.Section.{countAt, bodyOf, counted as countedOf, unlessBroken, checked, notRow, proposalsOf, neededOf, lossesOf, coinsOf};
-ghost use Rattle.run.specs.Sections.{fileMost, countMost, bodyMost, Near, outside};
+ghost use Rattle.file.specs.Section.{countAt, counted as countedOf, unlessBroken, checked, notRow, proposalsOf, neededOf, lossesOf, coinsOf};
+ghost use Rattle.run.specs.Sections.{fileMost, countBytes, countMost, bodyMost, Near, outside};
+use crate::places::byte_at;
+use crate::places::part;
 use codes::SET_BYTES;
 use codes::four_bytes_of;
 use codes::not_heads;
 use codes::within;
 use file::Section;
+
+// "a two-byte count"
+pub(crate) const COUNT_BYTES: usize = 2;
 
 // "Count n (2 to 32), then n proposals (0 or 1)."
 pub(crate) fn proposals(file: &[u8]) -> Section
@@ -55,33 +60,6 @@ pub(crate) fn coins(file: &[u8], at: usize, count: usize) -> Section
     checked_bytes(file, counted(file, at, read != count, count), 0, 1)
 }
 
-// The section's body, as the part of the file it stands in; an empty part at a refusal.
-pub(crate) fn body<'a>(file: &'a [u8], section: Section) -> &'a [u8]
-    ensures { λ r. ⌜ now r ≡ bodyOf (now (file .entry)) section ⌝ }
-{
-    let Section::Body { start, length } = section else {
-        return part(file, 0, 0);
-    };
-    part(file, start, length)
-}
-
-// `length` bytes from `start` on, or as many of them as there are.
-pub(crate) fn part<'a>(file: &'a [u8], start: usize, length: usize) -> &'a [u8]
-    ensures { λ r. ⌜ now r ≡ take length (drop start (now (file .entry))) ⌝ }
-{
-    let from = least(start, file.len());
-    let more = least(length, file.len() - from);
-    let end = from + more;
-    &file[from..end]
-}
-
-// The byte at a place, or 0 where the file has ended.
-pub(crate) fn byte_at(file: &[u8], place: usize) -> u8
-    ensures { λ r. ⌜ r ≡ getD (now (file .entry)) place 0 ⌝ }
-{
-    if place < file.len() { file[place] } else { 0 }
-}
-
 // "a two-byte count, high byte first"
 pub(crate) fn count_at(file: &[u8], place: usize) -> usize
     requires { ⌜ place ≤ fileMost ⌝ }
@@ -111,7 +89,7 @@ fn counted(file: &[u8], at: usize, breaks: bool, size: usize) -> Section
     ensures { λ r. ⌜ Near r ⌝ }
 {
     let end = file.len();
-    if end < at + 2 {
+    if end < at + COUNT_BYTES {
         return Section::Refused {
             number: 12,
             place: end,
@@ -123,14 +101,14 @@ fn counted(file: &[u8], at: usize, breaks: bool, size: usize) -> Section
             place: at,
         };
     }
-    if end < at + 2 + size {
+    if end < at + COUNT_BYTES + size {
         return Section::Refused {
             number: 12,
             place: end,
         };
     }
     Section::Body {
-        start: at + 2,
+        start: at + COUNT_BYTES,
         length: size,
     }
 }
@@ -140,9 +118,12 @@ fn checked_bytes(file: &[u8], section: Section, low: usize, high: usize) -> Sect
     requires { ⌜ Near section ⌝ }
     ensures { λ r. ⌜ r ≡ checked (now (file .entry)) 1 (outside low high) section ⌝ }
 {
-    let bytes = body(file, section);
-    let broken = first_outside(bytes, low, high);
-    unless_broken(section, broken, bytes.len(), 1)
+    let Section::Body { start, length } = section else {
+        return section;
+    };
+    let body = part(file, start, length);
+    let broken = first_outside(body, low, high);
+    unless_broken(start, length, broken, body.len(), 1)
 }
 
 // The section, unless a row of its body has a bit from n up.
@@ -150,18 +131,19 @@ fn checked_rows(file: &[u8], section: Section, n: usize) -> Section
     requires { ⌜ Near section × (n ≤ headsMost) ⌝ }
     ensures { λ r. ⌜ r ≡ checked (now (file .entry)) setBytes (notRow n) section ⌝ }
 {
-    let rows = body(file, section);
-    let broken = first_not_row(rows, n);
-    unless_broken(section, broken, rows.len() / SET_BYTES, SET_BYTES)
-}
-
-fn unless_broken(section: Section, broken: usize, pieces: usize, width: usize) -> Section
-    requires { ⌜ Near section × (broken ≤ bodyMost) × (width ≤ setBytes) ⌝ }
-    ensures { λ r. ⌜ r ≡ unlessBroken section broken pieces width ⌝ }
-{
     let Section::Body { start, length } = section else {
         return section;
     };
+    let rows = part(file, start, length);
+    let broken = first_not_row(rows, n);
+    unless_broken(start, length, broken, rows.len() / SET_BYTES, SET_BYTES)
+}
+
+// The section, unless one of its body's pieces, each of so many bytes, breaks its rule.
+fn unless_broken(start: usize, length: usize, broken: usize, pieces: usize, width: usize) -> Section
+    requires { ⌜ (start ≤ fileMost + countBytes) × (broken ≤ bodyMost) × (width ≤ setBytes) ⌝ }
+    ensures { λ r. ⌜ r ≡ unlessBroken (Section.Body start length) broken pieces width ⌝ }
+{
     if broken < pieces {
         return Section::Refused {
             number: 14,
@@ -205,11 +187,4 @@ fn first_not_row(rows: &[u8], n: usize) -> usize
         i += 1;
     }
     i
-}
-
-pub(crate) fn least(a: usize, b: usize) -> usize
-    ensures { λ r. ⌜ r ≡ min a b ⌝ }
-    ensures { λ r. ⌜ r ≤ b ⌝ }
-{
-    if a < b { a } else { b }
 }

@@ -1,7 +1,7 @@
 use borrow.Author.Needs.{needs}
 use Rattle.run.proofs.Parts.{part-is}
-use Rattle.run.proofs.sections.part.Statement.{statement}
-use Rattle.run.proofs.sections.part.Tie as tie
+use Rattle.run.proofs.places.part.Statement.{statement}
+use Rattle.run.proofs.places.part.Tie as tie
 
 least-requires : tie.Need-least-requires
 least-requires c κs = search needs
@@ -25,7 +25,7 @@ part-result-end : tie.Need-part-result-end
 part-result-end c = search needs
 
 returns : tie.Need-returns
-returns c = part-is (c .before .before .before .before .args .start) (c .before .before .before .before .args .length) (c .before .before .least .result) (c .before .least2 .result) (c .before .before .before .before .args .file .now) (c .before .before .least .ensures .0) (c .before .least2 .ensures .0)
+returns c = part-is (c .before .before .before .before .args .start) (c .before .before .before .before .args .length) (c .before .before .least .result) (c .before .least2 .result) (c .before .before .before .before .args .bytes .now) (c .before .before .least .ensures .0) (c .before .least2 .ensures .0)
 
 pub part-spec : {M : Type 1} → statement M
 part-spec =
