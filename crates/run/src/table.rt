@@ -7,7 +7,7 @@ ghost use Rattle.rules.specs.Sizes.{headsMost};
 ghost use Rattle.file.specs.Table.{startsIn, roundIn, roundsIn, tableAfter};
 ghost use Rattle.file.specs.Figures.{outcomeOf};
 ghost use Rattle.file.specs.Benched.{benchedOf};
-ghost use Rattle.run.specs.Survey.{surveyOf, tickedAll};
+ghost use Rattle.run.specs.Survey.{surveyOf};
 ghost use Rattle.run.specs.Small.{Small};
 use crate::figures::outcome;
 use crate::heads::Survey;
@@ -84,13 +84,6 @@ fn round(table: &mut [Head], n: usize, rows: &[u8], coins: &[u8])
     ensures { λ _. ⌜ now (table .exit) ≡ roundIn n (now (rows .entry)) (now (coins .entry)) (now (table .entry)) ⌝ }
 {
     let before = survey(table, n);
-    tick_all(table, n, before, rows, coins);
-}
-
-fn tick_all(table: &mut [Head], n: usize, before: Survey, rows: &[u8], coins: &[u8])
-    requires { ⌜ (n ≤ length (now table)) × (n ≤ headsMost) ⌝ }
-    ensures { λ _. ⌜ now (table .exit) ≡ tickedAll before n (now (rows .entry)) (now (coins .entry)) n (now (table .entry)) ⌝ }
-{
     let mut i = 0;
     while i < n {
         let h = table[i];
