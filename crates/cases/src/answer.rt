@@ -9,14 +9,19 @@
 use crate::entry::answer_vote_ballot;
 use crate::entry::answer_vote_start;
 use crate::entry::answer_vote_tick;
-use crate::head::ballot_bytes;
-use crate::head::begins_with_head;
-use crate::head::head_at;
-use crate::head::number_at;
-use crate::head::record_of;
+use crate::number::number_at;
 use crate::print::malformed;
 use crate::print::print_answer;
+use codes::BALLOT_BYTES;
+use codes::RECORD_BYTES;
+use codes::ballot_bytes;
+use codes::head_at;
+use codes::is_record;
+use codes::record_of;
 use rules::Read;
+
+// Where the list of a tick begins: after the head and the coin.
+const LIST_START: usize = RECORD_BYTES + 4;
 
 // Calls what the letter stands for and prints the answer. `lent` is the same bytes a second time.
 pub(crate) fn answer(letter: u8, bytes: &[u8], lent: &mut [u8]) {
@@ -40,7 +45,7 @@ fn answer_read(bytes: &[u8]) {
     let read = engine::read(number_at(bytes, 0), &bytes[4..]);
     match read {
         Read::Accepted(ballot) => print_answer(b'R', 0, &ballot_bytes(ballot)),
-        Read::Refused(number) => print_answer(b'R', number as u32, &[0; 5]),
+        Read::Refused(number) => print_answer(b'R', number as u32, &[0; BALLOT_BYTES]),
     }
 }
 
@@ -59,29 +64,33 @@ fn answer_start(bytes: &[u8]) {
 }
 
 fn answer_tick(bytes: &[u8]) {
-    if bytes.len() < 24 {
+    if bytes.len() < LIST_START {
         malformed(b'T');
         return;
     }
-    if !begins_with_head(bytes) {
-        malformed(b'T');
-        return;
-    }
-    let ticked = engine::tick(head_at(bytes), &bytes[24..], number_at(bytes, 20));
-    let head = ticked.head;
-    print_answer(b'T', ticked.number as u32, &record_of(head));
+    tick_head(
+        &bytes[0..RECORD_BYTES],
+        &bytes[LIST_START..],
+        number_at(bytes, RECORD_BYTES),
+    );
 }
 
 fn answer_send(bytes: &[u8]) {
-    if bytes.len() != 20 {
-        malformed(b'B');
-        return;
-    }
-    if !begins_with_head(bytes) {
+    if !is_record(bytes) {
         malformed(b'B');
         return;
     }
     let written = engine::send(head_at(bytes));
     let five = written.bytes;
     print_answer(b'B', written.number as u32, &five);
+}
+
+fn tick_head(head_record: &[u8], list: &[u8], coin: u32) {
+    if !is_record(head_record) {
+        malformed(b'T');
+        return;
+    }
+    let ticked = engine::tick(head_at(head_record), list, coin);
+    let head = ticked.head;
+    print_answer(b'T', ticked.number as u32, &record_of(head));
 }

@@ -7,8 +7,8 @@
 // Numbers are 4 bytes, a length is one byte. `bytes` and `lent` are the same bytes twice: a call
 // writes to a part of `lent` while it reads a part of `bytes`. Each is tested for its length, so
 // that no contract has to say that they are the same.
-use crate::head::byte_at;
-use crate::head::number_at;
+use crate::number::byte_at;
+use crate::number::number_at;
 use crate::print::malformed;
 use crate::print::print_answer;
 

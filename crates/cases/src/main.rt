@@ -5,13 +5,11 @@
 // what its bytes are. A line that begins with '#' is a comment.
 mod answer;
 mod entry;
-mod head;
 mod hex;
 mod line;
+mod number;
 mod print;
 
-ghost use Prim.Native.Nat.{_≤_};
-ghost use lib.ListN.{length};
 use libc::STDIN_FILENO;
 
 fn main() {
@@ -24,23 +22,8 @@ fn main() {
 fn answer_lines(text: &[u8]) {
     let mut at: usize = 0;
     while at < text.len() {
-        let end = line_end(text, at);
+        let end = bytes::scan::find(text, at, text.len(), b'\n');
         line::answer_line(&text[at..end]);
         at = end + 1;
     }
-}
-
-// Where the line that begins at `at` ends: at its newline, or where the text ends.
-fn line_end(text: &[u8], at: usize) -> usize
-    requires { ⌜ at ≤ length (now text) ⌝ }
-    ensures { λ r. ⌜ (at ≤ r) × (r ≤ length (now (text .entry))) ⌝ }
-{
-    let mut end = at;
-    while end < text.len() {
-        if text[end] == b'\n' {
-            return end;
-        }
-        end += 1;
-    }
-    end
 }

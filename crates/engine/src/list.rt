@@ -1,18 +1,19 @@
 // Looking at a list of ballots: each is read from its bytes when it is looked at.
 ghost use mathlib.Core.Path.{_≡_};
 ghost use mathlib.Core.Bool.{cond, _&&_};
-ghost use Prim.Native.Nat.{_<_, _/_};
+ghost use Prim.Native.Nat.{_<_};
 ghost use lib.Dec.{ltb};
-ghost use lib.ListN.{length};
 ghost use Rattle.rules.specs.Below.{first};
 ghost use Rattle.rules.specs.Ballot.{breaksRule, ballotAt};
 ghost use Rattle.rules.specs.Tick.{ballots as ballotsOf, leader as leaderOf, copying as copyingOf, sameState, ownOtherwise, differ as differOf, heldOtherwise, contradicts as contradictsOf, gathered as gatheredOf};
 ghost use Rattle.rules.specs.Choice.{ahead as aheadOf};
-use crate::ballot::ballot_at;
 use crate::ballot::breaks_rule;
 use crate::head::own_ballot;
 use crate::head::stands_under;
+use crate::head::stated;
 use crate::look::hear;
+use codes::BALLOT_BYTES;
+use codes::ballot_at;
 use codes::status_code;
 use codes::value_code;
 use rules::Ballot;
@@ -23,7 +24,7 @@ use rules::Head;
 pub(crate) fn first_breaking(n: u8, ballots: &[u8]) -> usize
     ensures { λ r. ⌜ r ≡ first (ballotsOf (now (ballots .entry))) (breaksRule n (now (ballots .entry))) ⌝ }
 {
-    let count = ballots.len() / 5;
+    let count = ballots.len() / BALLOT_BYTES;
     let mut i: usize = 0;
     while i < count {
         if breaks_rule(n as u32, ballots, i) {
@@ -38,7 +39,7 @@ pub(crate) fn first_breaking(n: u8, ballots: &[u8]) -> usize
 pub(crate) fn first_own_otherwise(head: Head, ballots: &[u8]) -> usize
     ensures { λ r. ⌜ r ≡ first (ballotsOf (now (ballots .entry))) (λ i. ownOtherwise head (ballotAt (now (ballots .entry)) i)) ⌝ }
 {
-    let count = ballots.len() / 5;
+    let count = ballots.len() / BALLOT_BYTES;
     let mut i: usize = 0;
     while i < count {
         if own_otherwise(head, ballot_at(ballots, i)) {
@@ -53,7 +54,7 @@ pub(crate) fn first_own_otherwise(head: Head, ballots: &[u8]) -> usize
 pub(crate) fn first_contradicting(head: Head, ballots: &[u8]) -> usize
     ensures { λ r. ⌜ r ≡ first (ballotsOf (now (ballots .entry))) (contradictsOf head (now (ballots .entry))) ⌝ }
 {
-    let count = ballots.len() / 5;
+    let count = ballots.len() / BALLOT_BYTES;
     let mut i: usize = 0;
     while i < count {
         if contradicts(head, ballots, i) {
@@ -79,7 +80,7 @@ pub(crate) fn gathered(head: Head, ballots: &[u8]) -> Head
 fn is_above(phase: u16, ballots: &[u8], at: usize) -> bool
     ensures { λ r. ⌜ r ≡ ltb at (ballotsOf (now (ballots .entry))) && ltb phase (ballotAt (now (ballots .entry)) at .phase) ⌝ }
 {
-    if at < ballots.len() / 5 {
+    if at < ballots.len() / BALLOT_BYTES {
         let ballot = ballot_at(ballots, at);
         phase < ballot.phase
     } else {
@@ -91,7 +92,7 @@ fn is_above(phase: u16, ballots: &[u8], at: usize) -> bool
 fn leader(ballots: &[u8]) -> usize
     ensures { λ r. ⌜ r ≡ leaderOf (now (ballots .entry)) ⌝ }
 {
-    let count = ballots.len() / 5;
+    let count = ballots.len() / BALLOT_BYTES;
     let mut best: usize = 0;
     let mut i: usize = 1;
     while i < count {
@@ -103,7 +104,7 @@ fn leader(ballots: &[u8]) -> usize
 
 // The index i where its ballot is ahead of the one at best, else best.
 fn leading(ballots: &[u8], i: usize, best: usize) -> usize
-    requires { ⌜ (i < length (now ballots) / 5) × (best < length (now ballots) / 5) ⌝ }
+    requires { ⌜ (i < ballotsOf (now ballots)) × (best < ballotsOf (now ballots)) ⌝ }
     ensures { λ r. ⌜ r ≡ cond (aheadOf (ballotAt (now (ballots .entry)) i) (ballotAt (now (ballots .entry)) best)) i best ⌝ }
 {
     if ahead(ballot_at(ballots, i), ballot_at(ballots, best)) {
@@ -125,17 +126,12 @@ fn copying(head: Head, ballot: Ballot) -> Head
     let value = ballot.value;
     let status = ballot.status;
     let decision = head.decision;
-    Head {
-        n: head.n,
-        own: head.own,
-        phase: ballot.phase,
-        value: value,
-        status: status,
-        decision: decision,
-        zeros: 0,
-        ones: 0,
-        blanks: 0,
-    }
+    let mut copy = stated(head, value, status, decision);
+    copy.phase = ballot.phase;
+    copy.zeros = 0;
+    copy.ones = 0;
+    copy.blanks = 0;
+    copy
 }
 
 fn own_otherwise(head: Head, ballot: Ballot) -> bool
@@ -148,7 +144,7 @@ fn own_otherwise(head: Head, ballot: Ballot) -> bool
 
 // Whether the ballot at index i differs from an earlier one or from what is held.
 fn contradicts(head: Head, ballots: &[u8], i: usize) -> bool
-    requires { ⌜ i < length (now ballots) / 5 ⌝ }
+    requires { ⌜ i < ballotsOf (now ballots) ⌝ }
     ensures { λ r. ⌜ r ≡ contradictsOf head (now (ballots .entry)) i ⌝ }
 {
     (first_differing(ballots, i) < i) | held_otherwise(head, ballot_at(ballots, i))
@@ -156,7 +152,7 @@ fn contradicts(head: Head, ballots: &[u8], i: usize) -> bool
 
 // The first ballot before index i that differs from the one there.
 fn first_differing(ballots: &[u8], i: usize) -> usize
-    requires { ⌜ i < length (now ballots) / 5 ⌝ }
+    requires { ⌜ i < ballotsOf (now ballots) ⌝ }
     ensures { λ r. ⌜ r ≡ first i (λ j. differOf (ballotAt (now (ballots .entry)) j) (ballotAt (now (ballots .entry)) i)) ⌝ }
 {
     let ballot = ballot_at(ballots, i);

@@ -3,20 +3,20 @@
 // `list` decide, which are slower.
 ghost use mathlib.Core.Path.{_≡_};
 ghost use mathlib.Core.Bool.{cond, _&&_};
-ghost use Prim.Native.Nat.{_<_, _/_};
+ghost use Prim.Native.Nat.{_<_};
 ghost use lib.Dec.{eqb};
-ghost use lib.ListN.{length};
 ghost use Rattle.rules.specs.Ballot.{statusCode, classOf};
 ghost use Rattle.rules.specs.Heard.{setOf};
 ghost use Rattle.rules.specs.Tick.{ballots as ballotsOf, added};
 ghost use Rattle.engine.specs.Look.{begun as begunOf, withPresent, withElsewhere, withBallot, lookAt, shown as shownOf, isPlain};
-use crate::ballot::ballot_at;
 use crate::ballot::breaks_of_class;
 use crate::ballot::breaks_rule;
 use crate::ballot::class;
 use crate::head::stands_under;
 use crate::heard::apart;
-use crate::heard::member;
+use codes::BALLOT_BYTES;
+use codes::ballot_at;
+use codes::member;
 use codes::status_code;
 use codes::value_code;
 use rules::Ballot;
@@ -42,7 +42,7 @@ pub struct Look {
 pub(crate) fn looked(head: Head, ballots: &[u8]) -> Look
     ensures { λ r. ⌜ r ≡ lookAt head (now (ballots .entry)) (ballotsOf (now (ballots .entry))) ⌝ }
 {
-    let count = ballots.len() / 5;
+    let count = ballots.len() / BALLOT_BYTES;
     let class = class(head.phase);
     let mut seen = begun(head);
     let mut i: usize = 0;
@@ -88,20 +88,11 @@ fn other_status(status: Status, undecided: u32, decided: u32) -> u32
 pub(crate) fn shown(head: Head, seen: Look) -> Head
     ensures { λ r. ⌜ r ≡ shownOf head seen ⌝ }
 {
-    let value = head.value;
-    let status = head.status;
-    let decision = head.decision;
-    Head {
-        n: head.n,
-        own: head.own,
-        phase: head.phase,
-        value: value,
-        status: status,
-        decision: decision,
-        zeros: seen.zeros,
-        ones: seen.ones,
-        blanks: seen.blanks,
-    }
+    let mut shown = head;
+    shown.zeros = seen.zeros;
+    shown.ones = seen.ones;
+    shown.blanks = seen.blanks;
+    shown
 }
 
 fn begun(head: Head) -> Look
@@ -121,7 +112,7 @@ fn begun(head: Head) -> Look
 
 // With the ballot at index i. The class of the head's phase is found once for the whole list.
 fn with_ballot(seen: Look, head: Head, class: Class, ballots: &[u8], i: usize) -> Look
-    requires { ⌜ (class ≡ classOf (head .phase)) × (i < length (now ballots) / 5) ⌝ }
+    requires { ⌜ (class ≡ classOf (head .phase)) × (i < ballotsOf (now ballots)) ⌝ }
     ensures { λ r. ⌜ r ≡ withBallot seen head (now (ballots .entry)) i ⌝ }
 {
     let ballot = ballot_at(ballots, i);

@@ -18,6 +18,8 @@ use crate::look::shown;
 use crate::step::quorum;
 use crate::step::risen;
 use crate::step::settled;
+use codes::BALLOT_BYTES;
+use codes::LIST_BYTES_MOST;
 use codes::value_code;
 use rules::Head;
 use rules::Ticked;
@@ -94,7 +96,7 @@ fn listened(head: Head, ballots: &[u8]) -> Ticked
 fn searched(head: Head, ballots: &[u8]) -> Ticked
     ensures { λ r. ⌜ r ≡ listenedOf head (now (ballots .entry)) ⌝ }
 {
-    let count = ballots.len() / 5;
+    let count = ballots.len() / BALLOT_BYTES;
     if first_breaking(head.n, ballots) < count {
         return answer(6, head);
     }
@@ -119,7 +121,7 @@ fn answer(number: u8, head: Head) -> Ticked
 fn not_list(ballots: &[u8]) -> bool
     ensures { λ r. ⌜ r ≡ notList (now (ballots .entry)) ⌝ }
 {
-    !(ballots.len() % 5 == 0) | (320 < ballots.len())
+    !(ballots.len() % BALLOT_BYTES == 0) | (LIST_BYTES_MOST < ballots.len())
 }
 
 fn both_heard(head: Head) -> bool

@@ -1,25 +1,38 @@
 -- Looking at a section's bytes: what the code's searches say of the definitions.
 use Prim.Native.Nat.{ℕ, _+_, _*_, _/_, _≤_, _<_}
-use mathlib.Core.Path.{_≡_, refl, ap, ap₂, fun-ext, _∙_}
+use mathlib.Core.Path.{_≡_, refl, sym, ap, ap₂, subst, fun-ext, _∙_}
 use mathlib.Core.List.{List}
 use mathlib.Core.Bool.{Bool, _&&_, _||_, not}
 use native.Mathlib.Decide.{decLt}
 use native.Mathlib.Omega.{arith}
-use lib.ListN.{length, getD}
+use lib.ListN.{length, getD, take, drop, length-take}
 use lib.Dec.{ltb, leb}
 use borrow.Author.Tests.{lt-ltb, le-ltb, le-leb, lt-leb}
 use Rattle.rules.specs.Below.{first}
 use Rattle.rules.proofs.Counting.Below.{first-le}
 use Rattle.file.specs.declared.Section.{Section}
-use Rattle.file.specs.Section.{bodyOf, firstBroken, unlessBroken, checked, notBit, notNeed}
-use Rattle.run.specs.Sections.{outside}
+use Rattle.file.specs.declared.Section.the-variants.{Body, Refused}
+use Rattle.file.specs.Section.{firstBroken, unlessBroken, checked, notBit, notNeed}
+use Rattle.run.specs.Sections.{fileMost, countBytes, bodyMost, Near, outside}
 
-pub checked-is : (file body : List ℕ) (section answer : Section) (width broken : ℕ) (breaks : List ℕ → ℕ → Bool) → body ≡ bodyOf file section → broken ≡ firstBroken body width breaks
-    → answer ≡ unlessBroken section broken (length body / width) width → answer ≡ checked file width breaks section
+-- a refused section is not looked at
+pub checked-refused : (file : List ℕ) (section : Section) (width number place : ℕ) (breaks : List ℕ → ℕ → Bool) → section ≡ Refused number place → section ≡ checked file width breaks section
+unfolding checked unlessBroken
+checked-refused file section width number place breaks e = e ∙ sym (ap (checked file width breaks) e)
+
+-- the body of any other is the part where it stands
+pub checked-body : (file body : List ℕ) (section answer : Section) (start size width broken : ℕ) (breaks : List ℕ → ℕ → Bool) → section ≡ Body start size → body ≡ take size (drop start file)
+    → broken ≡ firstBroken body width breaks → answer ≡ unlessBroken (Body start size) broken (length body / width) width → answer ≡ checked file width breaks section
 unfolding checked
-checked-is file body section answer width broken breaks at found e =
-    e ∙ ap (λ (k : ℕ). unlessBroken section k (length body / width) width) found
-    ∙ ap (λ (part : List ℕ). unlessBroken section (firstBroken part width breaks) (length part / width) width) at
+checked-body file body section answer start size width broken breaks is at found e =
+    e ∙ ap (λ (k : ℕ). unlessBroken (Body start size) k (length body / width) width) found
+    ∙ ap (λ (part : List ℕ). unlessBroken (Body start size) (firstBroken part width breaks) (length part / width) width) at ∙ sym (ap (checked file width breaks) is)
+
+-- and is short where the section is near
+pub near-short : (file body : List ℕ) (section : Section) (start size : ℕ) → section ≡ Body start size → Near section → body ≡ take size (drop start file) → (start ≤ fileMost + countBytes) × (length body ≤ bodyMost)
+near-short file body section start size is near at =
+    let here : Near (Body start size) = subst Near is near in
+    (here .0, omega (arith, here .1, ap length at, length-take size (drop start file)))
 
 -- pieces of one byte are bytes
 pub by-one : (k : ℕ) (p : ℕ → Bool) → first k p ≡ first (k / 1) (λ i. p (i * 1))
@@ -31,7 +44,7 @@ by-one k p =
     once i = omega arith
 
 -- what is found is within what was searched
-pub found-small : (k broken : ℕ) (p : ℕ → Bool) → broken ≡ first k p → k ≤ 8388480 → broken ≤ 8388480
+pub found-small : (k broken : ℕ) (p : ℕ → Bool) → broken ≡ first k p → k ≤ bodyMost → broken ≤ bodyMost
 found-small k broken p e h = omega (arith, e, first-le k p)
 
 -- "0 or 1"

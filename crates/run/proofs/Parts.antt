@@ -1,18 +1,14 @@
 -- Parts of a list of bytes: what a clamped part holds, and ballots of five bytes in it.
-use Prim.Native.Nat.{ℕ, suc, _+_, _-_, _*_, _≤_, _<_, min}
+use Prim.Native.Nat.{ℕ, zero, suc, _+_, _-_, _*_, _≤_, _<_, min}
 use mathlib.Core.Path.{_≡_, refl, sym, ap, ap₂, _∙_}
 use mathlib.Core.List.{List, [], _∷_, _++_, append-assoc, append-nil}
 use mathlib.Core.Bool.{Bool, true, false, cond}
 use native.Mathlib.Decide.{decLt}
-use native.Mathlib.Nat.{mul-le-mul}
+use native.Mathlib.Nat.{suc-mul, mul-le-mul, mul-le-mul-right}
 use native.Mathlib.Omega.{arith}
-use lib.ListN.{length, getD, take, drop, set, length-take, length-drop, drop-of-length-le}
-use lib.Seq.{take-all, take-length, drop-length, drop-cons, take-append-seam, take-set-le, drop-set-add, take-add, drop-at, sets, sets-eq, length-take-le}
-use Rattle.file.specs.declared.Section.{Section}
-use Rattle.file.specs.declared.Section.the-variants.{Body, Refused}
-use Rattle.file.specs.Section.{bodyOf}
+use lib.ListN.{length, getD, take, drop, set, length-drop, drop-of-length-le}
+use lib.Seq.{getD-take, getD-drop, take-take, drop-drop, take-all, take-length, drop-length, drop-cons, take-append-seam, take-set-le, drop-set-add, take-add, drop-at, sets, sets-eq, length-take-le}
 use Rattle.run.specs.Survey.{keptBytes}
-use Rattle.run.specs.Sections.{Near}
 
 take-least : (size : ℕ) (xs : List ℕ) → take (min size (length xs)) xs ≡ take size xs
 take-least size xs = go (decLt size (length xs))
@@ -39,6 +35,27 @@ part-is start size from more xs a b =
     let back : from + more - from ≡ min size (length (drop from xs)) = omega (arith, b, length-drop from xs) in
     ap (λ (k : ℕ). take k (drop from xs)) back ∙ take-least size (drop from xs)
     ∙ ap (take size) (ap (λ (k : ℕ). drop k xs) a ∙ drop-least start xs)
+
+-- a byte of a part
+pub byte-of-part : (xs : List ℕ) (start size i : ℕ) → i < size → getD (take size (drop start xs)) i 0 ≡ getD xs (start + i) 0
+byte-of-part xs start size i h = getD-take size (drop start xs) i 0 h ∙ getD-drop start xs i 0
+
+within-part : (from more size : ℕ) (xs : List ℕ) → from + more ≤ size → take more (drop from (take size xs)) ≡ take more (drop from xs)
+within-part zero more size xs h = take-take more size xs (omega arith)
+within-part (suc from) more zero xs h = absurd (omega arith)
+within-part (suc from) more (suc size) [] h = refl
+within-part (suc from) more (suc size) (x ∷ xs) h = within-part from more size xs (omega arith)
+
+-- a part of a part
+pub part-of-part : (xs : List ℕ) (start size from more : ℕ) → from + more ≤ size → take more (drop from (take size (drop start xs))) ≡ take more (drop (start + from) xs)
+part-of-part xs start size from more h = within-part from more size (drop start xs) h ∙ ap (take more) (drop-drop from start xs)
+
+-- a round's pieces end where the rounds' do
+pub round-inside : (r rounds n : ℕ) → r < rounds → r * n + n ≤ rounds * n
+round-inside r rounds n h =
+    let e : suc r * n ≡ r * n + n = suc-mul r n in
+    let more : suc r * n ≤ rounds * n = mul-le-mul-right n h in
+    omega (arith, e, more)
 
 -- a round's place among the rounds is small
 pub place-small : (r n : ℕ) → r < 256 → n ≤ 32 → r * n ≤ 8192
@@ -91,10 +108,3 @@ kept-or-lost five l at true many h =
     ap (λ (k : ℕ). take k (sets l at five)) none ∙ sets-before five l at 0 at (omega arith) ∙ sym (append-nil (take at l))
 kept-or-lost five l at false many h =
     take-add at 5 (sets l at five) ∙ ap₂ (λ (a b : List ℕ). a ++ b) (sets-before five l at 0 at (omega arith)) (ap (λ (k : ℕ). take k (drop at (sets l at five))) (sym many) ∙ sets-at five l at (omega (arith, many)))
-
--- ---- a section's body
-
--- a near section's body is short
-pub near-short : (file : List ℕ) (section : Section) → Near section → length (bodyOf file section) ≤ 8388480
-near-short file (Body start size) near = omega (arith, near .1, length-take size (drop start file))
-near-short file (Refused number place) near = omega arith

@@ -1,15 +1,33 @@
 -- What the section readers hand to one another.
-use Prim.Native.Nat.{ℕ, _≤_}
+use Prim.Native.Nat.{ℕ, _+_, _*_, _≤_}
 use mathlib.Core.List.{List}
 use mathlib.Core.Bool.{Bool, _||_}
 use lib.ListN.{getD}
 use lib.Dec.{ltb}
+use Rattle.rules.specs.Sizes.{headsMost, setBytes}
 use Rattle.file.specs.declared.Section.{Section}
 use Rattle.file.specs.declared.Section.the-variants.{Body, Refused}
 
--- a section's body starts near the front, and is no longer than 65,535 rounds of 32 rows of 4 bytes
+-- "The largest file is 41,001 bytes."
+abbrev pub fileMost : ℕ
+fileMost = 41001
+
+-- "a two-byte count"
+abbrev pub countBytes : ℕ
+countBytes = 2
+
+-- the largest that such a count can be
+abbrev pub countMost : ℕ
+countMost = 65535
+
+-- the longest body that a count can announce: so many rounds of 32 rows of 4 bytes. Its length is computed before the
+-- count's rule is known to hold.
+abbrev pub bodyMost : ℕ
+bodyMost = countMost * headsMost * setBytes
+
+-- a section's body starts right after a count that starts in a file, and is no longer than that
 abbrev pub Near : Section → Type 0
-Near (Body start length) = (start ≤ 41003) × (length ≤ 8388480)
+Near (Body start length) = (start ≤ fileMost + countBytes) × (length ≤ bodyMost)
 Near (Refused number place) = Unit {0}
 
 -- a byte below low or above high

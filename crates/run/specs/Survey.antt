@@ -6,7 +6,8 @@ use mathlib.Core.Bool.{Bool, cond}
 use lib.ListN.{getD, set, replicate}
 use lib.Seq.{sets}
 use Rattle.rules.specs.declared.Head.{Head}
-use Rattle.rules.specs.Ballot.{statusCode, bytesOf, fiveAt}
+use Rattle.rules.specs.Sizes.{headsMost, ballotBytes, setBytes}
+use Rattle.rules.specs.Ballot.{statusCode, bytesOf}
 use Rattle.rules.specs.Heard.{member}
 use Rattle.rules.specs.Head.{ballotOf}
 use Rattle.rules.specs.Tick.{tickOf}
@@ -15,12 +16,12 @@ use Rattle.file.specs.Table.{headOf}
 use Rattle.run.specs.declared.heads.Survey.{Survey}
 
 abbrev pub noSurvey : Survey
-noSurvey = record { ballots = replicate 160 0; decided = 0 }
+noSurvey = record { ballots = replicate (headsMost * ballotBytes) 0; decided = 0 }
 
 -- a survey with head i in it
 unfoldable pub noted : Survey → ℕ → Head → Survey
 noted before i h =
-    record { ballots = sets (before .ballots) (i * 5) (bytesOf (ballotOf h)); decided = before .decided + statusCode (h .status) }
+    record { ballots = sets (before .ballots) (i * ballotBytes) (bytesOf (ballotOf h)); decided = before .decided + statusCode (h .status) }
 
 -- of the first k heads of a table
 unfoldable pub surveyOf : ℕ → List Head → Survey
@@ -29,7 +30,7 @@ surveyOf (suc k) table = noted (surveyOf k table) k (headOf table k)
 
 -- how many bytes of a list a ballot takes: none where it is lost
 abbrev pub keptBytes : Bool → ℕ
-keptBytes lost = cond lost 0 5
+keptBytes lost = cond lost 0 ballotBytes
 
 -- those of the first k ballots that are not lost, in sender order
 unfoldable pub receivedFrom : List ℕ → ℕ → ℕ → List ℕ
@@ -38,7 +39,7 @@ receivedFrom ballots lost (suc k) = receivedFrom ballots lost k ++ cond (member 
 
 -- head i after its tick
 unfoldable pub tickedBy : Survey → ℕ → List ℕ → List ℕ → ℕ → Head → Head
-tickedBy before n rows coins i h = tickOf h (receivedFrom (before .ballots) (fourBytesAt rows (i * 4)) n) (getD coins i 0) .head
+tickedBy before n rows coins i h = tickOf h (receivedFrom (before .ballots) (fourBytesAt rows (i * setBytes)) n) (getD coins i 0) .head
 
 -- the table when the first k heads have been ticked
 unfoldable pub tickedAll : Survey → ℕ → List ℕ → List ℕ → ℕ → List Head → List Head

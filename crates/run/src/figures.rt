@@ -2,13 +2,15 @@
 ghost use mathlib.Core.Path.{_≡_};
 ghost use Prim.Native.Nat.{_*_, _≤_};
 ghost use lib.ListN.{length};
-ghost use Rattle.rules.specs.Heard.{size};
+ghost use Rattle.rules.specs.Sizes.{headsMost};
 ghost use Rattle.file.specs.Figures.{lostIn, boundOf, goodIn};
 ghost use Rattle.run.specs.Figures.{outcomeIn};
 ghost use Rattle.run.specs.Small.{Small};
 use crate::heads::Survey;
-use crate::heads::rows_of;
+use crate::plans::rows_of;
 use crate::sections::row_at;
+use codes::SET_BYTES;
+use codes::size;
 use file::Outcome;
 use file::Plan;
 
@@ -48,28 +50,21 @@ fn good(file: &[u8], plan: Plan, most: usize) -> usize
 
 // "its lost ballots, of n × n"
 fn lost_in(rows: &[u8], n: usize) -> usize
-    requires { ⌜ n ≤ 32 ⌝ }
+    requires { ⌜ n ≤ headsMost ⌝ }
     ensures { λ r. ⌜ r ≡ lostIn (now (rows .entry)) n ⌝ }
 {
     let mut lost = 0;
     let mut k = 0;
     while k < n {
-        lost = lost + ones(row_at(rows, k * 4));
+        lost = lost + size(row_at(rows, k * SET_BYTES)) as usize;
         k = k + 1;
     }
     lost
 }
 
-fn ones(row: u32) -> usize
-    ensures { λ r. ⌜ r ≡ size row ⌝ }
-    ensures { λ r. ⌜ r ≤ 32 ⌝ }
-{
-    u32::count_ones(row) as usize
-}
-
 // "ceil(n/2) × (n - k) + k - 2"; 0 where there are no heads.
 fn bound(n: usize, k: usize) -> usize
-    requires { ⌜ (n ≤ 32) × (k ≤ n) ⌝ }
+    requires { ⌜ (n ≤ headsMost) × (k ≤ n) ⌝ }
     ensures { λ r. ⌜ r ≡ boundOf n k ⌝ }
 {
     let sum = (n + 1) / 2 * (n - k) + k;

@@ -3,71 +3,63 @@ ghost use mathlib.Core.Path.{_≡_};
 ghost use Prim.Native.Nat.{_+_, _*_, _≤_, _<_};
 ghost use lib.ListN.{length, take, drop};
 ghost use lib.Seq.{sets};
-ghost use Rattle.rules.specs.Heard.{member};
-ghost use Rattle.rules.specs.Head.{zeroHead};
-ghost use Rattle.file.specs.Table.{startIn, rowsIn, coinsIn};
+ghost use Rattle.rules.specs.Sizes.{headsMost, ballotBytes};
+ghost use Rattle.file.specs.Table.{startIn};
 ghost use Rattle.run.specs.Survey.{noSurvey, noted, keptBytes, receivedFrom, tickedBy};
-ghost use Rattle.run.specs.Small.{Small};
-use crate::sections::byte_at;
-use crate::sections::part;
+use crate::places::byte_at;
+use crate::places::part;
+use crate::sections::COUNT_BYTES;
 use crate::sections::row_at;
+use codes::BALLOT_BYTES;
+use codes::HEADS_MOST;
+use codes::SET_BYTES;
+use codes::ballot_bytes;
+use codes::member;
 use codes::status_code;
-use codes::value_code;
+use engine::own_ballot;
 use engine::start;
 use engine::tick;
-use file::Plan;
 use rules::Head;
+
+// The ballots of as many heads as there can be.
+const ROUND_BYTES: usize = HEADS_MOST as usize * BALLOT_BYTES;
 
 // What the heads show before a round: their ballots, five bytes each in sender order, and how many of
 // them are decided.
 pub struct Survey {
-    pub ballots: [u8; 160],
+    pub ballots: [u8; ROUND_BYTES],
     pub decided: usize,
 }
 
+// Head i as it starts: its proposal is a byte of section 1's part.
 pub(crate) fn started(file: &[u8], n: usize, i: usize) -> Head
-    requires { ⌜ (n ≤ 32) × (i < n) ⌝ }
+    requires { ⌜ (n ≤ headsMost) × (i < n) ⌝ }
     ensures { λ r. ⌜ r ≡ startIn (now (file .entry)) n i ⌝ }
 {
-    let proposal = byte_at(file, 2 + i);
+    let proposals = part(file, COUNT_BYTES, n);
+    let proposal = byte_at(proposals, i);
     let answer = start(n as u32, i as u32, proposal as u32);
     answer.head
-}
-
-// The head of zeros, with which a table is made: what a refused start gives.
-pub(crate) fn no_head() -> Head
-    ensures { λ r. ⌜ r ≡ zeroHead ⌝ }
-{
-    let refused = start(0, 0, 0);
-    refused.head
 }
 
 pub(crate) fn no_survey() -> Survey
     ensures { λ r. ⌜ r ≡ noSurvey ⌝ }
 {
     Survey {
-        ballots: [0; 160],
+        ballots: [0; ROUND_BYTES],
         decided: 0,
     }
 }
 
 // The survey with head i in it.
 pub(crate) fn note(before: Survey, i: usize, head: Head) -> Survey
-    requires { ⌜ (i < 32) × (before .decided ≤ i) ⌝ }
+    requires { ⌜ (i < headsMost) × (before .decided ≤ i) ⌝ }
     ensures { λ r. ⌜ r ≡ noted before i head ⌝ }
 {
-    let value = head.value;
     let status = head.status;
-    let phase = head.phase;
-    let five = [
-        head.own,
-        value_code(value),
-        status_code(status),
-        (phase / 256) as u8,
-        (phase % 256) as u8,
-    ];
+    let five = ballot_bytes(own_ballot(head));
     let mut ballots = before.ballots;
-    copy_ballot(&mut ballots, i * 5, &five, 0);
+    copy_ballot(&mut ballots, i * BALLOT_BYTES, &five, 0);
     Survey {
         ballots: ballots,
         decided: before.decided + status_code(status) as usize,
@@ -83,50 +75,30 @@ pub(crate) fn ticked(
     coins: &[u8],
     i: usize,
 ) -> Head
-    requires { ⌜ (n ≤ 32) × (i < n) ⌝ }
+    requires { ⌜ (n ≤ headsMost) × (i < n) ⌝ }
     ensures { λ r. ⌜ r ≡ tickedBy before n (now (rows .entry)) (now (coins .entry)) i head ⌝ }
 {
     let coin = byte_at(coins, i);
     let mut list = before.ballots;
-    let length = received(&mut list, &before.ballots, row_at(rows, i * 4), n);
+    let length = received(&mut list, &before.ballots, row_at(rows, i * SET_BYTES), n);
     let answer = tick(head, &list[..length], coin as u32);
     answer.head
-}
-
-// "the loss rows of one round are a part from the middle of the file"
-pub(crate) fn rows_of<'a>(file: &'a [u8], plan: Plan, r: usize) -> &'a [u8]
-    requires { ⌜ Small plan × (r < 256) ⌝ }
-    ensures { λ s. ⌜ now s ≡ rowsIn (now (file .entry)) plan r ⌝ }
-{
-    let n = plan.n;
-    let from = plan.losses + r * n * 4;
-    part(file, from, n * 4)
-}
-
-// The coins of one round.
-pub(crate) fn coins_of<'a>(file: &'a [u8], plan: Plan, r: usize) -> &'a [u8]
-    requires { ⌜ Small plan × (r < 256) ⌝ }
-    ensures { λ s. ⌜ now s ≡ coinsIn (now (file .entry)) plan r ⌝ }
-{
-    let n = plan.n;
-    let from = plan.coins + r * n;
-    part(file, from, n)
 }
 
 // The ballots that are not lost, in sender order. The list comes with all of them, and stays so where
 // none is lost; else each is written, and a lost one is written over.
 fn received(list: &mut [u8], ballots: &[u8], lost: u32, n: usize) -> usize
-    requires { ⌜ (n ≤ 32) × (length (now ballots) ≡ 160) × (now list ≡ now ballots) ⌝ }
-    ensures { λ r. ⌜ (r ≤ n * 5) × (length (now (list .exit)) ≡ 160) × (take r (now (list .exit)) ≡ receivedFrom (now (ballots .entry)) lost n) ⌝ }
+    requires { ⌜ (n ≤ headsMost) × (length (now ballots) ≡ headsMost * ballotBytes) × (now list ≡ now ballots) ⌝ }
+    ensures { λ r. ⌜ (r ≤ n * ballotBytes) × (length (now (list .exit)) ≡ headsMost * ballotBytes) × (take r (now (list .exit)) ≡ receivedFrom (now (ballots .entry)) lost n) ⌝ }
 {
     if lost == 0 {
-        return n * 5;
+        return n * BALLOT_BYTES;
     }
     let mut at = 0;
     let mut k = 0;
     while k < n {
-        copy_ballot(list, at, ballots, k * 5);
-        at = at + kept_bytes(is_lost(lost, k));
+        copy_ballot(list, at, ballots, k * BALLOT_BYTES);
+        at = at + kept_bytes(member(lost, k as u8));
         k = k + 1;
     }
     at
@@ -134,8 +106,8 @@ fn received(list: &mut [u8], ballots: &[u8], lost: u32, n: usize) -> usize
 
 // Five bytes, from one place to another.
 fn copy_ballot(list: &mut [u8], at: usize, ballots: &[u8], from: usize)
-    requires { ⌜ (at + 5 ≤ length (now list)) × (from + 5 ≤ length (now ballots)) ⌝ }
-    ensures { λ _. ⌜ now (list .exit) ≡ sets (now (list .entry)) at (take 5 (drop from (now (ballots .entry)))) ⌝ }
+    requires { ⌜ (at + ballotBytes ≤ length (now list)) × (from + ballotBytes ≤ length (now ballots)) ⌝ }
+    ensures { λ _. ⌜ now (list .exit) ≡ sets (now (list .entry)) at (take ballotBytes (drop from (now (ballots .entry)))) ⌝ }
 {
     list[at] = ballots[from];
     list[at + 1] = ballots[from + 1];
@@ -144,17 +116,9 @@ fn copy_ballot(list: &mut [u8], at: usize, ballots: &[u8], from: usize)
     list[at + 4] = ballots[from + 4];
 }
 
-// "Bit s set: the ballot of head s is lost to it."
-fn is_lost(lost: u32, s: usize) -> bool
-    requires { ⌜ s < 32 ⌝ }
-    ensures { λ r. ⌜ r ≡ member s lost ⌝ }
-{
-    (lost >> (s as u32)) % 2 == 1
-}
-
 // How many bytes of a list a ballot takes.
 fn kept_bytes(lost: bool) -> usize
     ensures { λ r. ⌜ r ≡ keptBytes lost ⌝ }
 {
-    if lost { 0 } else { 5 }
+    if lost { 0 } else { BALLOT_BYTES }
 }

@@ -5,6 +5,7 @@
 mod figures;
 mod heads;
 mod lines;
+mod places;
 mod plans;
 mod sections;
 mod table;

@@ -1,14 +1,19 @@
 // A whole run file: its sections one after the other.
 ghost use mathlib.Core.Path.{_≡_};
-ghost use Prim.Native.Nat.{_≤_};
+ghost use Prim.Native.Nat.{_≤_, _<_};
 ghost use lib.ListN.{length};
+ghost use Rattle.rules.specs.Sizes.{headsMost};
 ghost use Rattle.file.specs.Plan.{refusedPlan, taken, closedOf, afterLosses, afterNeeded, afterProposals, planOf};
-use crate::sections::byte_at;
+ghost use Rattle.file.specs.Table.{rowsIn, coinsIn};
+ghost use Rattle.run.specs.Small.{Small};
+use crate::places::byte_at;
+use crate::places::part;
 use crate::sections::coins;
 use crate::sections::count_at;
 use crate::sections::losses;
 use crate::sections::needed;
 use crate::sections::proposals;
+use codes::SET_BYTES;
 use file::Plan;
 use file::Section;
 
@@ -24,20 +29,43 @@ pub(crate) fn plan_of(file: &[u8], room: usize) -> Plan
     after_proposals(file, room, start + length, length)
 }
 
+// "the loss rows of one round are a part from the middle of the file": of section 3's part.
+pub(crate) fn rows_of<'a>(file: &'a [u8], plan: Plan, r: usize) -> &'a [u8]
+    requires { ⌜ Small plan × (r < plan .rounds) ⌝ }
+    ensures { λ s. ⌜ now s ≡ rowsIn (now (file .entry)) plan r ⌝ }
+{
+    let n = plan.n;
+    let rounds = plan.rounds;
+    let losses = part(file, plan.losses, rounds * n * SET_BYTES);
+    part(losses, r * n * SET_BYTES, n * SET_BYTES)
+}
+
+// The coins of one round: a part of section 4's.
+pub(crate) fn coins_of<'a>(file: &'a [u8], plan: Plan, r: usize) -> &'a [u8]
+    requires { ⌜ Small plan × (r < plan .rounds) ⌝ }
+    ensures { λ s. ⌜ now s ≡ coinsIn (now (file .entry)) plan r ⌝ }
+{
+    let n = plan.n;
+    let rounds = plan.rounds;
+    let coins = part(file, plan.coins, rounds * n);
+    part(coins, r * n, n)
+}
+
 fn after_proposals(file: &[u8], room: usize, at: usize, n: usize) -> Plan
-    requires { ⌜ (at ≤ 34) × (n ≤ 32) ⌝ }
+    requires { ⌜ (at ≤ 34) × (n ≤ headsMost) ⌝ }
     ensures { λ r. ⌜ r ≡ afterProposals (now (file .entry)) room at n ⌝ }
 {
     let section = needed(file, at, n);
     let Section::Body { start, length } = section else {
         return refused_by(section);
     };
-    let k = byte_at(file, start) as usize;
+    let body = part(file, start, length);
+    let k = byte_at(body, 0) as usize;
     after_needed(file, room, start + length, n, k)
 }
 
 fn after_needed(file: &[u8], room: usize, at: usize, n: usize, k: usize) -> Plan
-    requires { ⌜ (at ≤ 37) × (n ≤ 32) ⌝ }
+    requires { ⌜ (at ≤ 37) × (n ≤ headsMost) ⌝ }
     ensures { λ r. ⌜ r ≡ afterNeeded (now (file .entry)) room at n k ⌝ }
 {
     let section = losses(file, at, n);
@@ -57,7 +85,7 @@ fn after_losses(
     rounds: usize,
     rows: usize,
 ) -> Plan
-    requires { ⌜ (at ≤ 32807) × (n ≤ 32) × (rounds ≤ 256) ⌝ }
+    requires { ⌜ (at ≤ 32807) × (n ≤ headsMost) × (rounds ≤ 256) ⌝ }
     ensures { λ r. ⌜ r ≡ afterLosses (now (file .entry)) room at n k rounds rows ⌝ }
 {
     let section = coins(file, at, rounds * n);

@@ -1,30 +1,37 @@
 // The sections of a run file: "the count is read, then its rule tested, then the body's length, then
 // its bytes."
 ghost use mathlib.Core.Path.{_≡_};
-ghost use mathlib.Core.Bool.{_||_, not};
+ghost use mathlib.Core.Bool.{_||_};
 ghost use lib.Dec.{ltb};
-ghost use Prim.Native.Nat.{_*_, _/_, _≤_, min};
-ghost use lib.ListN.{length, getD, take, drop};
+ghost use Prim.Native.Nat.{_+_, _*_, _/_, _≤_};
+ghost use lib.ListN.{length};
 ghost use Rattle.rules.specs.Below.{first};
-ghost use Rattle.rules.specs.Ballot.{notHeads};
-ghost use Rattle.rules.specs.Heard.{within};
+ghost use Rattle.rules.specs.Sizes.{headsMost, setBytes};
 ghost use Rattle.rules.specs.Record.{fourBytesAt};
-ghost use Rattle.file.specs.Section.{countAt, bodyOf, counted as countedOf, unlessBroken, checked, notRow, proposalsOf, neededOf, lossesOf, coinsOf};
-ghost use Rattle.run.specs.Sections.{Near, outside};
+ghost use Rattle.file.specs.Section.{countAt, counted as countedOf, unlessBroken, checked, notRow, proposalsOf, neededOf, lossesOf, coinsOf};
+ghost use Rattle.run.specs.Sections.{fileMost, countBytes, countMost, bodyMost, Near, outside};
+use crate::places::byte_at;
+use crate::places::part;
+use codes::SET_BYTES;
 use codes::four_bytes_of;
+use codes::not_heads;
+use codes::within;
 use file::Section;
+
+// "a two-byte count"
+pub(crate) const COUNT_BYTES: usize = 2;
 
 // "Count n (2 to 32), then n proposals (0 or 1)."
 pub(crate) fn proposals(file: &[u8]) -> Section
     ensures { λ r. ⌜ r ≡ proposalsOf (now (file .entry)) ⌝ }
 {
     let n = count_at(file, 0);
-    checked_bytes(file, counted(file, 0, not_heads(n), n), 0, 1)
+    checked_bytes(file, counted(file, 0, not_heads(n as u32), n), 0, 1)
 }
 
 // "Count 1, then k, the heads needed: more than n/2, at most n."
 pub(crate) fn needed(file: &[u8], at: usize, n: usize) -> Section
-    requires { ⌜ (at ≤ 41001) × (n ≤ 32) ⌝ }
+    requires { ⌜ (at ≤ fileMost) × (n ≤ headsMost) ⌝ }
     ensures { λ r. ⌜ r ≡ neededOf (now (file .entry)) at n ⌝ }
 {
     let count = count_at(file, at);
@@ -33,61 +40,38 @@ pub(crate) fn needed(file: &[u8], at: usize, n: usize) -> Section
 
 // "Count of rounds, 0 to 256; per round n rows of 4 bytes"
 pub(crate) fn losses(file: &[u8], at: usize, n: usize) -> Section
-    requires { ⌜ (at ≤ 41001) × (n ≤ 32) ⌝ }
+    requires { ⌜ (at ≤ fileMost) × (n ≤ headsMost) ⌝ }
     ensures { λ r. ⌜ r ≡ lossesOf (now (file .entry)) at n ⌝ }
 {
     let rounds = count_at(file, at);
-    checked_rows(file, counted(file, at, 256 < rounds, rounds * n * 4), n)
+    checked_rows(
+        file,
+        counted(file, at, 256 < rounds, rounds * n * SET_BYTES),
+        n,
+    )
 }
 
 // "Count n times rounds, then that many coins (0 or 1)"
 pub(crate) fn coins(file: &[u8], at: usize, count: usize) -> Section
-    requires { ⌜ (at ≤ 41001) × (count ≤ 8192) ⌝ }
+    requires { ⌜ (at ≤ fileMost) × (count ≤ 8192) ⌝ }
     ensures { λ r. ⌜ r ≡ coinsOf (now (file .entry)) at count ⌝ }
 {
     let read = count_at(file, at);
     checked_bytes(file, counted(file, at, read != count, count), 0, 1)
 }
 
-// The section's body, as the part of the file it stands in; an empty part at a refusal.
-pub(crate) fn body<'a>(file: &'a [u8], section: Section) -> &'a [u8]
-    ensures { λ r. ⌜ now r ≡ bodyOf (now (file .entry)) section ⌝ }
-{
-    let Section::Body { start, length } = section else {
-        return part(file, 0, 0);
-    };
-    part(file, start, length)
-}
-
-// `length` bytes from `start` on, or as many of them as there are.
-pub(crate) fn part<'a>(file: &'a [u8], start: usize, length: usize) -> &'a [u8]
-    ensures { λ r. ⌜ now r ≡ take length (drop start (now (file .entry))) ⌝ }
-{
-    let from = least(start, file.len());
-    let more = least(length, file.len() - from);
-    let end = from + more;
-    &file[from..end]
-}
-
-// The byte at a place, or 0 where the file has ended.
-pub(crate) fn byte_at(file: &[u8], place: usize) -> u8
-    ensures { λ r. ⌜ r ≡ getD (now (file .entry)) place 0 ⌝ }
-{
-    if place < file.len() { file[place] } else { 0 }
-}
-
 // "a two-byte count, high byte first"
 pub(crate) fn count_at(file: &[u8], place: usize) -> usize
-    requires { ⌜ place ≤ 41001 ⌝ }
+    requires { ⌜ place ≤ fileMost ⌝ }
     ensures { λ r. ⌜ r ≡ countAt (now (file .entry)) place ⌝ }
-    ensures { λ r. ⌜ r ≤ 65535 ⌝ }
+    ensures { λ r. ⌜ r ≤ countMost ⌝ }
 {
     byte_at(file, place) as usize * 256 + byte_at(file, place + 1) as usize
 }
 
 // "rows of 4 bytes, high byte first"
 pub(crate) fn row_at(rows: &[u8], place: usize) -> u32
-    requires { ⌜ place ≤ 8388480 ⌝ }
+    requires { ⌜ place ≤ bodyMost ⌝ }
     ensures { λ r. ⌜ r ≡ fourBytesAt (now (rows .entry)) place ⌝ }
 {
     four_bytes_of(
@@ -100,12 +84,12 @@ pub(crate) fn row_at(rows: &[u8], place: usize) -> u32
 
 // The section whose count stands at a place, its bytes not yet looked at.
 fn counted(file: &[u8], at: usize, breaks: bool, size: usize) -> Section
-    requires { ⌜ (at ≤ 41001) × (size ≤ 8388480) ⌝ }
+    requires { ⌜ (at ≤ fileMost) × (size ≤ bodyMost) ⌝ }
     ensures { λ r. ⌜ r ≡ countedOf (now (file .entry)) at breaks size ⌝ }
     ensures { λ r. ⌜ Near r ⌝ }
 {
     let end = file.len();
-    if end < at + 2 {
+    if end < at + COUNT_BYTES {
         return Section::Refused {
             number: 12,
             place: end,
@@ -117,14 +101,14 @@ fn counted(file: &[u8], at: usize, breaks: bool, size: usize) -> Section
             place: at,
         };
     }
-    if end < at + 2 + size {
+    if end < at + COUNT_BYTES + size {
         return Section::Refused {
             number: 12,
             place: end,
         };
     }
     Section::Body {
-        start: at + 2,
+        start: at + COUNT_BYTES,
         length: size,
     }
 }
@@ -134,28 +118,32 @@ fn checked_bytes(file: &[u8], section: Section, low: usize, high: usize) -> Sect
     requires { ⌜ Near section ⌝ }
     ensures { λ r. ⌜ r ≡ checked (now (file .entry)) 1 (outside low high) section ⌝ }
 {
-    let bytes = body(file, section);
-    let broken = first_outside(bytes, low, high);
-    unless_broken(section, broken, bytes.len(), 1)
+    let Section::Body { start, length } = section else {
+        return section;
+    };
+    let body = part(file, start, length);
+    let broken = first_outside(body, low, high);
+    unless_broken(start, length, broken, body.len(), 1)
 }
 
 // The section, unless a row of its body has a bit from n up.
 fn checked_rows(file: &[u8], section: Section, n: usize) -> Section
-    requires { ⌜ Near section × (n ≤ 32) ⌝ }
-    ensures { λ r. ⌜ r ≡ checked (now (file .entry)) 4 (notRow n) section ⌝ }
-{
-    let rows = body(file, section);
-    let broken = first_not_row(rows, n);
-    unless_broken(section, broken, rows.len() / 4, 4)
-}
-
-fn unless_broken(section: Section, broken: usize, pieces: usize, width: usize) -> Section
-    requires { ⌜ Near section × (broken ≤ 8388480) × (width ≤ 4) ⌝ }
-    ensures { λ r. ⌜ r ≡ unlessBroken section broken pieces width ⌝ }
+    requires { ⌜ Near section × (n ≤ headsMost) ⌝ }
+    ensures { λ r. ⌜ r ≡ checked (now (file .entry)) setBytes (notRow n) section ⌝ }
 {
     let Section::Body { start, length } = section else {
         return section;
     };
+    let rows = part(file, start, length);
+    let broken = first_not_row(rows, n);
+    unless_broken(start, length, broken, rows.len() / SET_BYTES, SET_BYTES)
+}
+
+// The section, unless one of its body's pieces, each of so many bytes, breaks its rule.
+fn unless_broken(start: usize, length: usize, broken: usize, pieces: usize, width: usize) -> Section
+    requires { ⌜ (start ≤ fileMost + countBytes) × (broken ≤ bodyMost) × (width ≤ setBytes) ⌝ }
+    ensures { λ r. ⌜ r ≡ unlessBroken (Section.Body start length) broken pieces width ⌝ }
+{
     if broken < pieces {
         return Section::Refused {
             number: 14,
@@ -187,37 +175,16 @@ fn is_outside(byte: u8, low: usize, high: usize) -> bool
 
 // The first row with a bit from n up; where there is none, the number of rows.
 fn first_not_row(rows: &[u8], n: usize) -> usize
-    requires { ⌜ (length (now rows) ≤ 8388480) × (n ≤ 32) ⌝ }
-    ensures { λ r. ⌜ r ≡ first (length (now (rows .entry)) / 4) (λ i. notRow n (now (rows .entry)) (i * 4)) ⌝ }
+    requires { ⌜ (length (now rows) ≤ bodyMost) × (n ≤ headsMost) ⌝ }
+    ensures { λ r. ⌜ r ≡ first (length (now (rows .entry)) / setBytes) (λ i. notRow n (now (rows .entry)) (i * setBytes)) ⌝ }
 {
-    let count = rows.len() / 4;
+    let count = rows.len() / SET_BYTES;
     let mut i: usize = 0;
     while i < count {
-        if not_row(row_at(rows, i * 4), n) {
+        if !within(row_at(rows, i * SET_BYTES), n as u32) {
             return i;
         }
         i += 1;
     }
     i
-}
-
-// 64 bits, since n may be 32.
-fn not_row(row: u32, n: usize) -> bool
-    requires { ⌜ n ≤ 32 ⌝ }
-    ensures { λ r. ⌜ r ≡ not (within n row) ⌝ }
-{
-    !((row as u64) < 1u64 << n as u32)
-}
-
-fn not_heads(n: usize) -> bool
-    ensures { λ r. ⌜ r ≡ notHeads n ⌝ }
-{
-    !((2 <= n) & (n <= 32))
-}
-
-pub(crate) fn least(a: usize, b: usize) -> usize
-    ensures { λ r. ⌜ r ≡ min a b ⌝ }
-    ensures { λ r. ⌜ r ≤ b ⌝ }
-{
-    if a < b { a } else { b }
 }

@@ -3,21 +3,23 @@
 ghost use mathlib.Core.Path.{_≡_};
 ghost use Prim.Native.Nat.{_≤_};
 ghost use lib.ListN.{length};
+ghost use Rattle.rules.specs.Sizes.{headsMost};
 ghost use Rattle.file.specs.Table.{startsIn, roundIn, roundsIn, tableAfter};
 ghost use Rattle.file.specs.Figures.{outcomeOf};
 ghost use Rattle.file.specs.Benched.{benchedOf};
-ghost use Rattle.run.specs.Survey.{surveyOf, tickedAll};
+ghost use Rattle.run.specs.Survey.{surveyOf};
 ghost use Rattle.run.specs.Small.{Small};
 use crate::figures::outcome;
 use crate::heads::Survey;
-use crate::heads::coins_of;
-use crate::heads::no_head;
 use crate::heads::no_survey;
 use crate::heads::note;
-use crate::heads::rows_of;
 use crate::heads::started;
 use crate::heads::ticked;
+use crate::plans::coins_of;
 use crate::plans::plan_of;
+use crate::plans::rows_of;
+use codes::HEADS_MOST;
+use codes::zero_head;
 use file::Benched;
 use file::Outcome;
 use file::Plan;
@@ -40,8 +42,8 @@ pub fn bench(file: &[u8], table: &mut [Head]) -> Outcome
 pub fn run_file(file: &[u8]) -> Benched
     ensures { λ r. ⌜ r ≡ benchedOf (now (file .entry)) ⌝ }
 {
-    let h = no_head();
-    let mut table = [h; 32];
+    let h = zero_head();
+    let mut table = [h; HEADS_MOST as usize];
     let o = bench(file, &mut table);
     Benched {
         outcome: o,
@@ -50,7 +52,7 @@ pub fn run_file(file: &[u8]) -> Benched
 }
 
 fn start_all(table: &mut [Head], file: &[u8], n: usize)
-    requires { ⌜ (n ≤ length (now table)) × (n ≤ 32) ⌝ }
+    requires { ⌜ (n ≤ length (now table)) × (n ≤ headsMost) ⌝ }
     ensures { λ _. ⌜ now (table .exit) ≡ startsIn (now (file .entry)) n (now (table .entry)) ⌝ }
 {
     let mut i = 0;
@@ -78,17 +80,10 @@ fn run_rounds(table: &mut [Head], file: &[u8], plan: Plan)
 
 // "A round: all n ballots are formed first, then each head in number order is ticked".
 fn round(table: &mut [Head], n: usize, rows: &[u8], coins: &[u8])
-    requires { ⌜ (n ≤ length (now table)) × (n ≤ 32) ⌝ }
+    requires { ⌜ (n ≤ length (now table)) × (n ≤ headsMost) ⌝ }
     ensures { λ _. ⌜ now (table .exit) ≡ roundIn n (now (rows .entry)) (now (coins .entry)) (now (table .entry)) ⌝ }
 {
     let before = survey(table, n);
-    tick_all(table, n, before, rows, coins);
-}
-
-fn tick_all(table: &mut [Head], n: usize, before: Survey, rows: &[u8], coins: &[u8])
-    requires { ⌜ (n ≤ length (now table)) × (n ≤ 32) ⌝ }
-    ensures { λ _. ⌜ now (table .exit) ≡ tickedAll before n (now (rows .entry)) (now (coins .entry)) n (now (table .entry)) ⌝ }
-{
     let mut i = 0;
     while i < n {
         let h = table[i];
@@ -100,7 +95,7 @@ fn tick_all(table: &mut [Head], n: usize, before: Survey, rows: &[u8], coins: &[
 
 // What the first n heads show: their ballots, and how many are decided.
 fn survey(table: &[Head], n: usize) -> Survey
-    requires { ⌜ (n ≤ length (now table)) × (n ≤ 32) ⌝ }
+    requires { ⌜ (n ≤ length (now table)) × (n ≤ headsMost) ⌝ }
     ensures { λ r. ⌜ r ≡ surveyOf n (now (table .entry)) ⌝ }
 {
     let mut shown = no_survey();

@@ -2,7 +2,7 @@
 ghost use mathlib.Core.Path.{_≡_};
 ghost use Rattle.file.specs.Report.{decimal};
 ghost use Rattle.run.specs.Writing.{Held, noText, withWord};
-use crate::sections::least;
+use crate::places::least;
 use file::Text;
 
 pub(crate) fn empty() -> Text

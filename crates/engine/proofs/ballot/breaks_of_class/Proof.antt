@@ -1,10 +1,14 @@
 use Rattle.rules.specs.Ballot.{breaksRule, obeys}
+use native.Mathlib.Nat.{add-zero}
 use borrow.Author.Needs.{needs}
 use Rattle.engine.proofs.ballot.breaks_of_class.Statement.{statement}
 use Rattle.engine.proofs.ballot.breaks_of_class.Tie as tie
 
 mul-at : tie.Need-mul-at
 mul-at c = search needs
+
+add-wide : tie.Need-add-wide
+add-wide c = search needs
 
 shared-slice-read-wide : tie.Need-shared-slice-read-wide
 shared-slice-read-wide c = search needs
@@ -29,13 +33,14 @@ allowed-requires c κs = search needs
 
 returns : tie.Need-returns
 unfolding breaksRule obeys
-returns c = simp (← c .before .before .before .before .before .before .pre .0, c .allowed .ensures, c .before .before .before .wide .ensures)
+returns c = simp (add-zero, ← c .before .before .before .before .before .before .pre .0, c .allowed .ensures, c .before .before .before .wide .ensures)
 
 pub breaks-of-class-spec : {M : Type 1} → statement M
 breaks-of-class-spec =
     tie.close
     (tie.spec
     mul-at
+    add-wide
     shared-slice-read-wide
     wide-requires
     add-allowed

@@ -6,6 +6,7 @@ use Rattle.rules.specs.declared.Class.{Class}
 use Rattle.rules.specs.declared.Ballot.{Ballot}
 use Rattle.engine.specs.Look.{withBallot}
 use borrow.Author.Needs.{needs}
+use Rattle.codes.proofs.Held.{ballot-there}
 use Rattle.engine.proofs.look.with_ballot.Statement.{statement}
 use Rattle.engine.proofs.look.with_ballot.Tie as tie
 
@@ -17,14 +18,14 @@ cast-breaks-of-class c = search needs
 
 breaks-of-class-requires : tie.Need-breaks-of-class-requires
 unfolding ballotAt
-breaks-of-class-requires c κs = (c .before .before .before .before .before .before .pre .0 ∙ ap classOf (sym (ap (λ (b : Ballot). b .phase) (sym (c .before .before .before .before .ballot-at .ensures)) ∙ c .before .if1 .taken)), c .before .before .before .before .before .before .pre .1)
+breaks-of-class-requires c κs = (c .before .before .before .before .before .before .pre .0 ∙ ap classOf (sym (ap (λ (b : Ballot). b .phase) (sym (ballot-there (c .before .before .before .before .before .before .args .ballots .now) (c .before .before .before .before .before .before .args .i) (c .before .before .before .before .ballot-at .ensures) (c .before .before .before .before .before .before .pre .1))) ∙ c .before .if1 .taken)), c .before .before .before .before .before .before .pre .1)
 
 with-present-requires : tie.Need-with-present-requires
 with-present-requires c κs = search needs
 
 returns : tie.Need-returns
 unfolding withBallot
-returns c = simp (c .with-present .ensures, c .before .breaks-of-class .ensures, ← c .before .before .before .before .before .before .ballot-at .ensures, eq-eqb _ _ (c .before .before .before .if1 .taken))
+returns c = simp (c .with-present .ensures, c .before .breaks-of-class .ensures, ← ballot-there (c .before .before .before .before .before .before .before .before .args .ballots .now) (c .before .before .before .before .before .before .before .before .args .i) (c .before .before .before .before .before .before .ballot-at .ensures) (c .before .before .before .before .before .before .before .before .pre .1), eq-eqb _ _ (c .before .before .before .if1 .taken))
 
 cast-breaks-rule : tie.Need-cast-breaks-rule
 cast-breaks-rule c = search needs
@@ -37,7 +38,7 @@ with-elsewhere-requires c κs = search needs
 
 returns-2 : tie.Need-returns-2
 unfolding withBallot
-returns-2 c = simp (c .with-elsewhere .ensures, c .before .breaks-rule .ensures, ← c .before .before .before .before .before .before .ballot-at .ensures, ne-eqb _ _ (c .before .before .before .if1 .left))
+returns-2 c = simp (c .with-elsewhere .ensures, c .before .breaks-rule .ensures, ← ballot-there (c .before .before .before .before .before .before .before .before .args .ballots .now) (c .before .before .before .before .before .before .before .before .args .i) (c .before .before .before .before .before .before .ballot-at .ensures) (c .before .before .before .before .before .before .before .before .pre .1), ne-eqb _ _ (c .before .before .before .if1 .left))
 
 pub with-ballot-spec : {M : Type 1} → statement M
 with-ballot-spec =

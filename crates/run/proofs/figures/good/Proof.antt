@@ -39,7 +39,7 @@ unfolding count
 loop-holds c = (omega arith, refl, omega arith)
 
 rows-of-requires : tie.Need-rows-of-requires Inv-loop μ-loop
-rows-of-requires c κs = (c .before .before .before .pre .0, omega (arith, c .before .before .before .pre .0 .rounds))
+rows-of-requires c κs = (c .before .before .before .pre .0, c .loop-test .taken)
 
 lost-in-requires : tie.Need-lost-in-requires Inv-loop μ-loop
 lost-in-requires c κs = c .before .before .before .before .pre .0 .heads

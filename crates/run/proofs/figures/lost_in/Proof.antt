@@ -6,6 +6,7 @@ use native.Mathlib.Omega.{arith}
 use borrow.Author.Needs.{needs}
 use Rattle.rules.specs.Heard.{size}
 use Rattle.rules.specs.Record.{fourBytesAt}
+use Rattle.rules.proofs.Counting.Sets.{size-le}
 use Rattle.file.specs.Figures.{lostIn}
 use Rattle.run.proofs.figures.lost_in.Statement.{statement}
 use Rattle.run.proofs.figures.lost_in.Tie as tie
@@ -32,11 +33,14 @@ mul-row-at c = omega arith
 row-at-requires : tie.Need-row-at-requires Inv-loop μ-loop
 row-at-requires c κs = omega arith
 
-ones-requires : tie.Need-ones-requires Inv-loop μ-loop
-ones-requires c κs = search needs
+size-requires : tie.Need-size-requires Inv-loop μ-loop
+size-requires c κs = search needs
+
+cast-lost : tie.Need-cast-lost Inv-loop μ-loop
+cast-lost c = record { fits = omega (arith, c .size .ensures, size-le (c .before .row-at .result)) }
 
 add-lost : tie.Need-add-lost Inv-loop μ-loop
-add-lost c = omega (arith, c .before .before .before .loop .inv .2, c .ones .ensures .1)
+add-lost c = omega (arith, c .before .before .before .loop .inv .2, c .size .ensures, size-le (c .before .row-at .result))
 
 add-k : tie.Need-add-k Inv-loop μ-loop
 add-k c = omega arith
@@ -48,7 +52,7 @@ loop-again : tie.Need-loop-again Inv-loop μ-loop
 loop-again c = let e = c .before .before .before .loop .inv in
     let k = c .before .before .before .loop .k in
     let rows = c .before .before .before .before .before .args .rows .now in
-    (omega arith, lost-more rows k _ _ (e .1) (c .ones .ensures .0 ∙ ap size (c .before .row-at .ensures)), omega (arith, e .2, c .ones .ensures .1))
+    (omega arith, lost-more rows k _ _ (e .1) (c .size .ensures ∙ ap size (c .before .row-at .ensures)), omega (arith, e .2, c .size .ensures, size-le (c .before .row-at .result)))
 
 returns : tie.Need-returns Inv-loop μ-loop
 returns c = c .before .loop .inv .1 ∙ ap (lostIn (c .before .before .before .args .rows .now)) (le-antisymm (c .before .loop .inv .0) (c .loop-test .left))
@@ -62,7 +66,8 @@ lost-in-spec =
     loop-holds
     mul-row-at
     row-at-requires
-    ones-requires
+    size-requires
+    cast-lost
     add-lost
     add-k
     loop-less

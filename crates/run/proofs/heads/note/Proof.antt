@@ -1,34 +1,31 @@
-use Prim.Native.Nat.{ℕ, _+_, _*_, _/_, _%_}
+use Prim.Native.Nat.{ℕ, _+_, _*_}
 use mathlib.Core.Path.{_≡_, refl}
-use mathlib.Core.List.{List, [], _∷_}
+use mathlib.Core.List.{List}
 use native.Mathlib.Omega.{arith}
-use lib.ListN.{length}
+use lib.ListN.{length, take, drop}
 use lib.Seq.{sets}
 use borrow.Author.Needs.{needs}
+use Rattle.rules.specs.declared.Ballot.{Ballot}
 use Rattle.rules.specs.declared.Head.{Head}
-use Rattle.rules.specs.Ballot.{valueCode, statusCode}
+use Rattle.rules.specs.Sizes.{ballotBytes}
+use Rattle.rules.specs.Ballot.{bytesOf, statusCode}
+use Rattle.rules.specs.Head.{ballotOf}
 use Rattle.run.specs.declared.heads.Survey.{Survey}
 use Rattle.run.specs.Survey.{noted}
 use Rattle.run.proofs.heads.note.Statement.{statement}
 use Rattle.run.proofs.heads.note.Tie as tie
 
-noted-is : (before : Survey) (i : ℕ) (h : Head) (ballots : List ℕ) (value status more : ℕ) → ballots ≡ sets (before .ballots) (i * 5) (h .own ∷ value ∷ status ∷ h .phase / 256 ∷ h .phase % 256 ∷ [])
-    → value ≡ valueCode (h .value) → status ≡ statusCode (h .status) → more ≡ statusCode (h .status)
+noted-is : (before : Survey) (i : ℕ) (h : Head) (b : Ballot) (five ballots : List ℕ) (more : ℕ) → b ≡ ballotOf h → five ≡ bytesOf b
+    → ballots ≡ sets (before .ballots) (i * ballotBytes) (take ballotBytes (drop 0 five)) → more ≡ statusCode (h .status)
     → _≡_ {A = Survey} (record { ballots = ballots; decided = before .decided + more }) (noted before i h)
 unfolding noted
-noted-is before i h ballots value status more b v s m = rw (b, v, s, m) refl
+noted-is before i h b five ballots more own bytes stored m = rw (stored, bytes, own, m) refl
 
-value-code-requires : tie.Need-value-code-requires
-value-code-requires c κs = search needs
+own-ballot-requires : tie.Need-own-ballot-requires
+own-ballot-requires c κs = search needs
 
-status-code-requires : tie.Need-status-code-requires
-status-code-requires c κs = search needs
-
-cast-t12 : tie.Need-cast-t12
-cast-t12 c = search needs
-
-cast-t14 : tie.Need-cast-t14
-cast-t14 c = search needs
+ballot-bytes-requires : tie.Need-ballot-bytes-requires
+ballot-bytes-requires c κs = search needs
 
 slice-aggregate-copy-ballot : tie.Need-slice-aggregate-copy-ballot
 slice-aggregate-copy-ballot c = search needs
@@ -40,33 +37,33 @@ slice-aggregate-copy-ballot-2 : tie.Need-slice-aggregate-copy-ballot-2
 slice-aggregate-copy-ballot-2 c = search needs
 
 copy-ballot-requires : tie.Need-copy-ballot-requires
-copy-ballot-requires c κs = let long : 160 ≡ length (c .before .before .before .before .before .args .before .ballots) = slice-aggregate-copy-ballot (c .before) in (omega (arith, long, c .before .before .before .before .before .pre .0), omega arith)
+copy-ballot-requires c κs = let long : 160 ≡ length (c .before .before .before .before .before .args .before .ballots) = slice-aggregate-copy-ballot (c .before) in
+    let five : 5 ≡ length (c .before .before .before .ballot-bytes .result) = slice-aggregate-copy-ballot-2 c in
+    (omega (arith, long, c .before .before .before .before .before .pre .0), omega (arith, five))
 
-status-code-requires-2 : tie.Need-status-code-requires-2
-status-code-requires-2 c κs = search needs
+status-code-requires : tie.Need-status-code-requires
+status-code-requires c κs = search needs
 
-cast-t18 : tie.Need-cast-t18
-cast-t18 c = search needs
+cast-t12 : tie.Need-cast-t12
+cast-t12 c = search needs
 
-add-t22 : tie.Need-add-t22
-add-t22 c = search needs
+add-t17 : tie.Need-add-t17
+add-t17 c = search needs
 
 returns : tie.Need-returns
-returns c = noted-is _ _ _ _ _ _ _ (c .before .before .before .copy-ballot .ensures) (c .before .before .before .before .before .before .before .before .value-code .ensures) (c .before .before .before .before .before .before .before .status-code .ensures) (c .before .status-code2 .ensures)
+returns c = noted-is _ _ _ _ _ _ _ (c .before .before .before .before .before .before .before .before .own-ballot .ensures) (c .before .before .before .before .before .before .before .ballot-bytes .ensures) (c .before .before .before .copy-ballot .ensures) (c .before .status-code .ensures)
 
 pub note-spec : {M : Type 1} → statement M
 note-spec =
     tie.close
     (tie.spec
-    value-code-requires
-    status-code-requires
-    cast-t12
-    cast-t14
+    own-ballot-requires
+    ballot-bytes-requires
     slice-aggregate-copy-ballot
     mul-copy-ballot
     slice-aggregate-copy-ballot-2
     copy-ballot-requires
-    status-code-requires-2
-    cast-t18
-    add-t22
+    status-code-requires
+    cast-t12
+    add-t17
     returns)

@@ -51,14 +51,17 @@ mul-copy-ballot c = omega arith
 copy-ballot-requires : tie.Need-copy-ballot-requires Inv-loop μ-loop
 copy-ballot-requires c κs = let e = c .before .before .loop .inv in (omega (arith, e .1, e .2, c .before .before .before .before .before .before .pre .0), omega (arith, c .before .before .before .before .before .before .pre .0, c .before .before .before .before .before .before .pre .1))
 
-is-lost-requires : tie.Need-is-lost-requires Inv-loop μ-loop
-is-lost-requires c κs = omega (arith, c .before .before .before .before .before .before .before .before .before .pre .0)
+cast-member : tie.Need-cast-member Inv-loop μ-loop
+cast-member c = record { fits = omega (arith, c .before .before .before .before .before .before .before .before .before .pre .0) }
+
+member-requires : tie.Need-member-requires Inv-loop μ-loop
+member-requires c κs = search needs
 
 kept-bytes-requires : tie.Need-kept-bytes-requires Inv-loop μ-loop
 kept-bytes-requires c κs = search needs
 
 add-at : tie.Need-add-at Inv-loop μ-loop
-add-at c = record { fits = omega (arith, c .before .before .before .before .before .before .before .loop .inv .1, c .before .before .before .before .before .before .before .before .before .before .before .pre .0, c .kept-bytes .ensures, kept-small (c .before .is-lost .result)) }
+add-at c = record { fits = omega (arith, c .before .before .before .before .before .before .before .loop .inv .1, c .before .before .before .before .before .before .before .before .before .before .before .pre .0, c .kept-bytes .ensures, kept-small (c .before .member .result)) }
 
 add-k : tie.Need-add-k Inv-loop μ-loop
 add-k c = omega arith
@@ -70,9 +73,9 @@ loop-again : tie.Need-loop-again Inv-loop μ-loop
 loop-again c = let e = c .before .before .before .before .before .before .before .loop .inv in
     let pre = c .before .before .before .before .before .before .before .before .before .before .before .pre in (
       omega arith,
-      omega (arith, e .1, c .kept-bytes .ensures, kept-small (c .before .is-lost .result)),
+      omega (arith, e .1, c .kept-bytes .ensures, kept-small (c .before .member .result)),
       ap length (c .before .before .before .before .copy-ballot .ensures) ∙ length-sets (c .before .before .before .before .before .before .before .loop .list) (c .before .before .before .before .before .before .before .loop .at) (fiveAt (c .before .before .before .before .before .before .before .before .before .before .before .args .ballots .now) (c .before .before .before .before .before .before .before .loop .k)) ∙ e .2,
-      received-more _ _ _ _ _ _ _ _ (omega (arith, e .1, e .2, pre .0)) (omega (arith, pre .0, pre .1)) (e .3) (c .before .before .before .before .copy-ballot .ensures) (c .before .is-lost .ensures) (c .kept-bytes .ensures),
+      received-more _ _ _ _ _ _ _ _ (omega (arith, e .1, e .2, pre .0)) (omega (arith, pre .0, pre .1)) (e .3) (c .before .before .before .before .copy-ballot .ensures) (c .before .member .ensures) (c .kept-bytes .ensures),
     )
 
 same-length : tie.Need-same-length Inv-loop μ-loop
@@ -93,7 +96,8 @@ received-spec =
     loop-holds
     mul-copy-ballot
     copy-ballot-requires
-    is-lost-requires
+    cast-member
+    member-requires
     kept-bytes-requires
     add-at
     add-k

@@ -1,9 +1,10 @@
 use borrow.Author.Needs.{needs}
+use Rattle.run.proofs.Parts.{byte-of-part}
 use Rattle.run.proofs.heads.started.Statement.{statement}
 use Rattle.run.proofs.heads.started.Tie as tie
 
-add-byte-at : tie.Need-add-byte-at
-add-byte-at c = search needs
+part-requires : tie.Need-part-requires
+part-requires c κs = search needs
 
 byte-at-requires : tie.Need-byte-at-requires
 byte-at-requires c κs = search needs
@@ -21,13 +22,14 @@ start-requires : tie.Need-start-requires
 start-requires c κs = search needs
 
 returns : tie.Need-returns
-returns c = simp (c .before .start .ensures, c .before .before .byte-at .ensures)
+returns c = let file = c .before .before .before .before .before .args .file .now in
+    simp (c .before .start .ensures, c .before .before .byte-at .ensures, c .before .before .before .part .ensures, byte-of-part file 2 (c .before .before .before .before .before .args .n) (c .before .before .before .before .before .args .i) (c .before .before .before .before .before .pre .1))
 
 pub started-spec : {M : Type 1} → statement M
 started-spec =
     tie.close
     (tie.spec
-    add-byte-at
+    part-requires
     byte-at-requires
     cast-start
     cast-start-2

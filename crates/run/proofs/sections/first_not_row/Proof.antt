@@ -24,11 +24,14 @@ mul-row-at c = omega arith
 row-at-requires : tie.Need-row-at-requires Inv-loop μ-loop
 row-at-requires c κs = omega arith
 
-not-row-requires : tie.Need-not-row-requires Inv-loop μ-loop
-not-row-requires c κs = search needs
+cast-within : tie.Need-cast-within Inv-loop μ-loop
+cast-within c = search needs
+
+within-requires : tie.Need-within-requires Inv-loop μ-loop
+within-requires c κs = search needs
 
 returns : tie.Need-returns Inv-loop μ-loop
-returns c = search-finds _ _ _ (c .before .before .before .before .loop .inv .1) (sym (c .before .not-row .ensures ∙ ap (λ (row : ℕ). not (within (c .before .before .before .before .before .before .args .n) row)) (c .before .before .row-at .ensures)) ∙ c .if1 .taken) (c .before .before .before .loop-test .taken)
+returns c = search-finds _ _ _ (c .before .before .before .before .loop .inv .1) (ap not (sym (c .before .within .ensures ∙ ap (within (c .before .before .before .before .before .before .args .n)) (c .before .before .row-at .ensures))) ∙ c .if1 .taken) (c .before .before .before .loop-test .taken)
 
 add-i : tie.Need-add-i Inv-loop μ-loop
 add-i c = omega arith
@@ -37,7 +40,7 @@ loop-less : tie.Need-loop-less Inv-loop μ-loop
 loop-less c = omega arith
 
 loop-again : tie.Need-loop-again Inv-loop μ-loop
-loop-again c = (omega arith, none-more (c .before .before .before .before .loop .inv .1) (sym (c .before .not-row .ensures ∙ ap (λ (row : ℕ). not (within (c .before .before .before .before .before .before .args .n) row)) (c .before .before .row-at .ensures)) ∙ c .if1 .left))
+loop-again c = (omega arith, none-more (c .before .before .before .before .loop .inv .1) (ap not (sym (c .before .within .ensures ∙ ap (within (c .before .before .before .before .before .before .args .n)) (c .before .before .row-at .ensures))) ∙ c .if1 .left))
 
 returns-2 : tie.Need-returns-2 Inv-loop μ-loop
 returns-2 c = search-ends _ _ _ (c .before .loop .inv .1) (c .before .loop .inv .0) (c .loop-test .left)
@@ -51,7 +54,8 @@ first-not-row-spec =
     loop-holds
     mul-row-at
     row-at-requires
-    not-row-requires
+    cast-within
+    within-requires
     returns
     add-i
     loop-less

@@ -13,6 +13,9 @@ use Rattle.run.proofs.sections.proposals.Tie as tie
 count-at-requires : tie.Need-count-at-requires
 count-at-requires c κs = search needs
 
+cast-not-heads : tie.Need-cast-not-heads
+cast-not-heads c = search needs
+
 not-heads-requires : tie.Need-not-heads-requires
 not-heads-requires c κs = search needs
 
@@ -30,4 +33,4 @@ returns c = let file = c .before .before .before .before .before .args .file .no
 pub proposals-spec : {M : Type 1} → statement M
 proposals-spec =
     tie.close
-    (tie.spec count-at-requires not-heads-requires counted-requires checked-bytes-requires returns)
+    (tie.spec count-at-requires cast-not-heads not-heads-requires counted-requires checked-bytes-requires returns)

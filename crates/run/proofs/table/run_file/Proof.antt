@@ -62,10 +62,10 @@ use Rattle.file.proofs.Benched as B
 use Rattle.file.proofs.Benched.Laws as B′
 use Rattle.run.proofs.Walking.{R, mach, told, head-lawful, head-tells, head-copy, headTy, bytesVal, Bytes, Table, bytes-copied, answered}
 use Rattle.run.proofs.Calling.{table-left, of-first, of-others}
-use Rattle.run.proofs.heads.no_head as no-head
-use Rattle.run.proofs.heads.no_head.Symbol as no-head-def
-use Rattle.run.proofs.heads.no_head.Symbol.{name as #run·heads·no-head}
-use Rattle.run.proofs.heads.no_head.Met as no-head-thm
+use Rattle.codes.proofs.zero_head as zero-head
+use Rattle.codes.proofs.zero_head.Symbol as zero-head-def
+use Rattle.codes.proofs.zero_head.Symbol.{name as #codes·zero-head}
+use Rattle.codes.proofs.zero_head.Met as zero-head-thm
 use Rattle.run.proofs.table.bench as bench
 use Rattle.run.proofs.table.bench.Symbol as bench-def
 use Rattle.run.proofs.table.bench.Symbol.{name as #run·table·bench}
@@ -102,8 +102,8 @@ abbrev stayed : Stays (run-file.ended .signature .params) (run-file.ended .kept)
 stayed = (stay-none-slice (0 ∷ []) tt (plain (λ _. u8)) yes, tt)
 
 module _ {M : Type 1} (𝓤 : URA M) (H : Heap 𝓤) (A : Atoms 𝓤) (mem″ : Memory → SProp 𝓤) (run : Routine → Fun 𝓤) where
-  abbrev NoHead : Contract 𝓤
-  NoHead = tripleOf 𝓤 H A no-head.signature (no-head.spec 𝓤 H A mem″ run)
+  abbrev ZeroHead : Contract 𝓤
+  ZeroHead = tripleOf 𝓤 H A zero-head.signature (zero-head.spec 𝓤 H A mem″ run)
 
   abbrev Bench : Contract 𝓤
   Bench = tripleOf 𝓤 H A bench.signature (bench.spec 𝓤 H A mem″ run)
@@ -161,10 +161,10 @@ module _ {M : Type 1} (𝓤 : URA M) (H : Heap 𝓤) (A : Atoms 𝓤) (W : Given
       frame ! $ nothing ! $ move ! (1 ∷ 0 ∷ []) $ fjoin ! $ frame ! $ owned ! B.the-row (Is B.the-row) (LL.makes B.the-type B′.the-plain 𝓤 H A) (res p hs) _ is $ done !
 
   -- ---- the calls
-  abbrev to-none : NoHead 𝓤 H A mem″ run .Ghost
+  abbrev to-none : ZeroHead 𝓤 H A mem″ run .Ghost
   to-none = ((tt, tt, tt, tt, tt), tt)
 
-  goes-none : ent 𝓤 (emp 𝓤) (NoHead 𝓤 H A mem″ run .pre to-none)
+  goes-none : ent 𝓤 (emp 𝓤) (ZeroHead 𝓤 H A mem″ run .pre to-none)
   goes-none = qed W [] ∵ nothing ! $ nothing ! $ join ! $ frame ! $ done !
 
   -- the table at the block b, under the name γ, lent for the lifetime ν
@@ -178,7 +178,7 @@ module _ {M : Type 1} (𝓤 : URA M) (H : Heap 𝓤) (A : Atoms 𝓤) (W : Given
   goes-bench b ν γ =
       qed W ((‵ (flft κ q) ⊛ ‵ (flft (ν ∷ []) fullShare) ⊛ ‵ ftrue) ∷ ‵ (Bytes κ fx) ∷ ‵ (Table (ν ∷ []) γ b 0 32 emptyTable) ∷ []) ∵ nothing ! $ move ! (3 ∷ 0 ∷ []) $ fjoin ! $ move ! (2 ∷ 0 ∷ []) $ fjoin ! $ move ! (1 ∷ 0 ∷ []) $ join ! $ frame ! $ done !
 
-  module _ (𝓣 : Tables 𝓤 H) (known-none : Triple 𝓤 (𝓣 .C #run·heads·no-head) (NoHead 𝓤 H A mem″ run)) (known-bench : Triple 𝓤 (𝓣 .C #run·table·bench) (Bench 𝓤 H A mem″ run)) where
+  module _ (𝓣 : Tables 𝓤 H) (known-none : Triple 𝓤 (𝓣 .C #codes·zero-head) (ZeroHead 𝓤 H A mem″ run)) (known-bench : Triple 𝓤 (𝓣 .C #run·table·bench) (Bench 𝓤 H A mem″ run)) where
     abbrev fm : FmC 𝓤 H (W .laws) (𝓣 .C)
     fm = fmOf 𝓤 H (W .laws) 𝓣
 
@@ -186,9 +186,9 @@ module _ {M : Type 1} (𝓤 : URA M) (H : Heap 𝓤) (A : Atoms 𝓤) (W : Given
     walk =
         qed W ((‵ (flft κ q) ⊛ ‵ ftrue) ∷ ‵ (owns (ShrSlice (named 0) κ u8 ∷ []) (fx, tt) at) ∷ []) ∵ enter ! (𝓣 .C) (𝓣 .Λ) code.function (bytesVal fx ∷ []) _ $
         alloc1 ! (λ l₀. alloc1 ! (λ l₁. alloc1 ! (λ l₂. alloc1 ! (λ l₃. alloc1 ! (λ l₄. alloc1 ! (λ l₅. alloc1 ! (λ l₆. alloc1 ! (λ l₇. alloc0 ! $ params1 ! $ pass1 ! (init ! 12 refl (tt, (tt, (record { fits = f-room .0 }, tt)))) $ pass0 ! $
-        use0 W (raw (NoHead 𝓤 H A mem″ run .pre to-none)) goes-none $
-        calls-at ! fm (NoHead 𝓤 H A mem″ run) known-none to-none (no-more !) (λ w.
-        answered ! tt no-head.ended tt tt R (‵ ftrue) w (λ (r : Head). r ≡ zeroHead) (λ r er is.
+        use0 W (raw (ZeroHead 𝓤 H A mem″ run .pre to-none)) goes-none $
+        calls-at ! fm (ZeroHead 𝓤 H A mem″ run) known-none to-none (no-more !) (λ w.
+        answered ! tt zero-head.ended tt tt R (‵ ftrue) w (λ (r : Head). r ≡ zeroHead) (λ r er is.
         land ! (from ! (stop !)) (init ! 12 refl (head-lawful 𝓤 H A W .typed r _ is .0)) $
         -- the array is made
         rewrite ! 0 (λ (z : Head). ‵ (R .own z (w ∷ []))) er refl $ use1 W (‵ (AR .own emptyTable (arrayVal (replicate 32 w) ∷ []))) (array-repeat 𝓤 H A W R (head-copy 𝓤 H A W) 32 zeroHead w) $
@@ -220,7 +220,7 @@ module _ {M : Type 1} (𝓤 : URA M) (H : Heap 𝓤) (A : Atoms 𝓤) (W : Given
         keep ! (1 ∷ 2 ∷ []) $ by ! (exits p zs (made 𝓤 H A W p zs u ip iz) said)))))))))))))))))
 
 module _ {M : Type 1} (𝓤 : URA M) (H : Heap 𝓤) (A : Atoms 𝓤) (W : Given 𝓤 H A) (mem″ : Memory → SProp 𝓤) (run : Routine → Fun 𝓤) (𝓣 : Tables 𝓤 H)
-    (known-none : Triple 𝓤 (𝓣 .C #run·heads·no-head) (NoHead 𝓤 H A mem″ run)) (known-bench : Triple 𝓤 (𝓣 .C #run·table·bench) (Bench 𝓤 H A mem″ run)) where
+    (known-none : Triple 𝓤 (𝓣 .C #codes·zero-head) (ZeroHead 𝓤 H A mem″ run)) (known-bench : Triple 𝓤 (𝓣 .C #run·table·bench) (Bench 𝓤 H A mem″ run)) where
   run-file-walks : Walks 𝓤 H A run-file.ended stayed (WpFn 𝓤 H (𝓣 .C) (𝓣 .Λ) code.function) (run-file.clauses 𝓤 H A mem″ run)
   run-file-walks = walked 𝓤 H A run-file.ended stayed (run-file.clauses 𝓤 H A mem″ run) (WpFn 𝓤 H (𝓣 .C) (𝓣 .Λ) code.function) (λ κs. (slice-vals, tt)) (λ κs. (shr-slice-tells (named 0) (κs .0) u8, tt))
       (λ κs qs bounds a g are. via 𝓤 _ (fst∗ 𝓤 _ (emp 𝓤)) (walk 𝓤 H A W mem″ run (κs .0) (qs .0) (a .0) (are .0 .0 .1) 𝓣 known-none known-bench))
@@ -234,5 +234,5 @@ run-file-spec 𝓤 H 𝓜 𝓖 𝓡 =
     entered 𝓤 H (tripleOf 𝓤 H (𝓖 .A) run-file.signature (run-file.spec 𝓤 H (𝓖 .A) (𝓜 .mem) (𝓡 .run)))
     (tables 𝓤 H 𝓜 𝓡 code.env .C) (tables 𝓤 H 𝓜 𝓡 code.env .Λ) #run·table·run-file code.function (code.unfolded 𝓤 H 𝓜 𝓡)
     (run-file-meets 𝓤 H (𝓖 .A) (givenOf 𝓤 H 𝓜 𝓖) (𝓜 .mem) (𝓡 .run) (tablesOf 𝓤 H 𝓜 (tables 𝓤 H 𝓜 𝓡 code.env))
-    (cited 𝓤 H (NoHead 𝓤 H (𝓖 .A) (𝓜 .mem) (𝓡 .run)) 𝓜 𝓡 code.env #run·heads·no-head no-head-def.routine code.calls-run·heads·no-head (no-head-thm.met 𝓤 H 𝓜 𝓖 𝓡))
+    (cited 𝓤 H (ZeroHead 𝓤 H (𝓖 .A) (𝓜 .mem) (𝓡 .run)) 𝓜 𝓡 code.env #codes·zero-head zero-head-def.routine code.calls-codes·zero-head (zero-head-thm.met 𝓤 H 𝓜 𝓖 𝓡))
     (cited 𝓤 H (Bench 𝓤 H (𝓖 .A) (𝓜 .mem) (𝓡 .run)) 𝓜 𝓡 code.env #run·table·bench bench-def.routine code.calls-run·table·bench (bench-thm.met 𝓤 H 𝓜 𝓖 𝓡)))
