@@ -4,6 +4,7 @@ use mathlib.Core.Path.{_≡_}
 use Rattle.rules.proofs.Answers.{only}
 use Rattle.rules.proofs.Ballots.{one-answer}
 use Rattle.engine.proofs.ballot.read.Reads as read
+use Rattle.engine.proofs.head.own_ballot.Reads as own-ballot
 use Rattle.engine.proofs.head.send.Reads as send
 use Rattle.engine.proofs.head.sound.Reads as sound
 use Rattle.engine.proofs.head.start.Reads as start
@@ -23,3 +24,6 @@ send-only κs a r r′ s s′ p q = only p q
 
 pub sound-only : (κs : _) (a : _) (r r′ : _) (s s′ : _) → sound.Post κs a r s → sound.Post κs a r′ s′ → r ≡ r′
 sound-only κs a r r′ s s′ p q = only p q
+
+pub own-ballot-only : (κs : _) (a : _) (r r′ : _) (s s′ : _) → own-ballot.Post κs a r s → own-ballot.Post κs a r′ s′ → r ≡ r′
+own-ballot-only κs a r r′ s s′ p q = only p q

@@ -1,1 +1,2 @@
+pub mod Stated
 pub mod Look

@@ -1,14 +1,17 @@
-// One ballot: its codes, the ballot rules, reading and writing its five bytes.
+// One ballot: the ballot rules, and reading it from its bytes.
 ghost use mathlib.Core.Path.{_≡_};
-ghost use Prim.Native.Nat.{_/_, _<_};
-ghost use lib.ListN.{length};
-ghost use Rattle.rules.specs.Ballot.{bytesOf, classOf, allowed as allowedOf, obeys as obeysOf, breaksRule, phaseAt, ballotAt, notHeads, readNumber, readBallot, numberRead, ballotRead};
+ghost use Prim.Native.Nat.{_<_};
+ghost use Rattle.rules.specs.Ballot.{classOf, allowed as allowedOf, obeys as obeysOf, breaksRule, readNumber, readBallot, numberRead, ballotRead};
+ghost use Rattle.rules.specs.Tick.{ballots as ballotsOf};
+use codes::BALLOT_BYTES;
+use codes::PHASE_HIGH;
+use codes::PHASE_LOW;
+use codes::SENDER;
+use codes::STATUS;
+use codes::VALUE;
+use codes::ballot_at;
+use codes::not_heads;
 use codes::phase_of;
-use codes::status_code;
-use codes::status_of;
-use codes::value_code;
-use codes::value_of;
-use rules::Ballot;
 use rules::Class;
 use rules::Read;
 
@@ -19,7 +22,7 @@ pub fn read(n: u32, bytes: &[u8]) -> Read
     if not_heads(n) {
         return Read::Refused(1);
     }
-    if bytes.len() != 5 {
+    if bytes.len() != BALLOT_BYTES {
         return Read::Refused(5);
     }
     if breaks_rule(n, bytes, 0) {
@@ -28,33 +31,14 @@ pub fn read(n: u32, bytes: &[u8]) -> Read
     Read::Accepted(ballot_at(bytes, 0))
 }
 
-pub(crate) fn not_heads(n: u32) -> bool
-    ensures { λ r. ⌜ r ≡ notHeads n ⌝ }
-{
-    !((2 <= n) & (n <= 32))
-}
-
 // Whether the ballot at index i breaks a ballot rule.
 pub(crate) fn breaks_rule(n: u32, ballots: &[u8], i: usize) -> bool
-    requires { ⌜ i < length (now ballots) / 5 ⌝ }
+    requires { ⌜ i < ballotsOf (now ballots) ⌝ }
     ensures { λ r. ⌜ r ≡ breaksRule n (now (ballots .entry)) i ⌝ }
 {
-    let at = i * 5;
-    breaks_of_class(
-        n,
-        class(phase_of(ballots[at + 3], ballots[at + 4])),
-        ballots,
-        i,
-    )
-}
-
-// The same where the class of its phase is known.
-pub(crate) fn breaks_of_class(n: u32, class: Class, ballots: &[u8], i: usize) -> bool
-    requires { ⌜ (class ≡ classOf (phaseAt (now ballots) i)) × (i < length (now ballots) / 5) ⌝ }
-    ensures { λ r. ⌜ r ≡ breaksRule n (now (ballots .entry)) i ⌝ }
-{
-    let at = i * 5;
-    !((wide(ballots[at]) < n) & allowed(class, ballots[at + 1], ballots[at + 2]))
+    let at = i * BALLOT_BYTES;
+    let phase = phase_of(ballots[at + PHASE_HIGH], ballots[at + PHASE_LOW]);
+    !((wide(ballots[at + SENDER]) < n) & obeys(phase, ballots[at + VALUE], ballots[at + STATUS]))
 }
 
 // A function of its own: that a byte is below 256 is known of a parameter, not of a slice's element.
@@ -62,22 +46,6 @@ fn wide(byte: u8) -> u32
     ensures { λ r. ⌜ r ≡ byte ⌝ }
 {
     byte as u32
-}
-
-// The ballot at index i of a list of ballots.
-pub(crate) fn ballot_at(ballots: &[u8], i: usize) -> Ballot
-    requires { ⌜ i < length (now ballots) / 5 ⌝ }
-    ensures { λ r. ⌜ r ≡ ballotAt (now (ballots .entry)) i ⌝ }
-{
-    let at = i * 5;
-    let value = value_of(ballots[at + 1]);
-    let status = status_of(ballots[at + 2]);
-    Ballot {
-        sender: ballots[at],
-        value: value,
-        status: status,
-        phase: phase_of(ballots[at + 3], ballots[at + 4]),
-    }
 }
 
 // The ballot rules, of a phase and the codes of a value and a status.
@@ -142,20 +110,4 @@ fn allowed(class: Class, value: u8, status: u8) -> bool
             _ => false,
         },
     }
-}
-
-// A ballot's five bytes.
-pub(crate) fn bytes(ballot: Ballot) -> [u8; 5]
-    ensures { λ r. ⌜ r ≡ bytesOf ballot ⌝ }
-{
-    let phase = ballot.phase;
-    let value = ballot.value;
-    let status = ballot.status;
-    [
-        ballot.sender,
-        value_code(value),
-        status_code(status),
-        (phase / 256) as u8,
-        (phase % 256) as u8,
-    ]
 }

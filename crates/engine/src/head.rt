@@ -1,17 +1,19 @@
 // A head: its start, its soundness, and the ballot that it sends.
 ghost use mathlib.Core.Path.{_≡_};
-ghost use Prim.Native.Nat.{_≤_};
-ghost use Rattle.rules.specs.Head.{fresh as freshOf, zeroHead, isDecided, isWritten, decisionIsValue, decisionFits, setsFit, phaseFits, standsUnder, sound as soundOf, startOf, ballotOf, sendOf};
-use crate::ballot::bytes;
-use crate::ballot::not_heads;
+ghost use Rattle.rules.specs.Head.{fresh as freshOf, isDecided, isWritten, decisionIsValue, decisionFits, setsFit, phaseFits, standsUnder, sound as soundOf, startOf, ballotOf, sendOf};
+ghost use Rattle.engine.specs.Stated.{stated as statedOf};
 use crate::ballot::obeys;
 use crate::heard::apart;
-use crate::heard::member;
-use crate::heard::within;
+use codes::BALLOT_BYTES;
+use codes::ballot_bytes;
 use codes::decision_code;
+use codes::member;
+use codes::not_heads;
 use codes::status_code;
 use codes::value_code;
 use codes::value_of;
+use codes::within;
+use codes::zero_head;
 use rules::Ballot;
 use rules::Decision;
 use rules::Head;
@@ -49,12 +51,12 @@ pub fn send(head: Head) -> Written
     if sound(head) {
         Written {
             number: 0,
-            bytes: bytes(own_ballot(head)),
+            bytes: ballot_bytes(own_ballot(head)),
         }
     } else {
         Written {
             number: 3,
-            bytes: [0; 5],
+            bytes: [0; BALLOT_BYTES],
         }
     }
 }
@@ -76,7 +78,8 @@ pub fn sound(head: Head) -> bool
             & (sets_fit(head) & (phase_fits(head) & stands_under(head, head.own, value))))
 }
 
-pub(crate) fn own_ballot(head: Head) -> Ballot
+// A head's ballot: "A head sends its present phase, value and status".
+pub fn own_ballot(head: Head) -> Ballot
     ensures { λ r. ⌜ r ≡ ballotOf head ⌝ }
 {
     let value = head.value;
@@ -119,14 +122,14 @@ pub(crate) fn decision_is_value(head: Head) -> bool
 }
 
 fn sets_fit(head: Head) -> bool
-    requires { ⌜ head .n ≤ 32 ⌝ }
     ensures { λ r. ⌜ r ≡ setsFit head ⌝ }
 {
     let zeros = head.zeros;
     let ones = head.ones;
     let blanks = head.blanks;
+    let n = head.n as u32;
     (apart(zeros, ones) & (apart(zeros, blanks) & apart(ones, blanks)))
-        & (within(zeros, head.n) & (within(ones, head.n) & within(blanks, head.n)))
+        & (within(zeros, n) & (within(ones, n) & within(blanks, n)))
 }
 
 fn phase_fits(head: Head) -> bool
@@ -149,31 +152,32 @@ pub(crate) fn stands_under(head: Head, s: u8, value: Value) -> bool
 fn fresh(n: u8, own: u8, proposal: u8) -> Head
     ensures { λ r. ⌜ r ≡ freshOf n own proposal ⌝ }
 {
-    Head {
-        n: n,
-        own: own,
-        phase: 1,
-        value: value_of(proposal),
-        status: Status::Undecided,
-        decision: Decision::Unwritten,
-        zeros: 0,
-        ones: 0,
-        blanks: 0,
-    }
+    let mut started = stated(
+        zero_head(),
+        value_of(proposal),
+        Status::Undecided,
+        Decision::Unwritten,
+    );
+    started.n = n;
+    started.own = own;
+    started.phase = 1;
+    started
 }
 
-fn zero_head() -> Head
-    ensures { λ r. ⌜ r ≡ zeroHead ⌝ }
+// The head with another value, status and decision. A field that is an enum is not written in place:
+// the toolchain does not cover it.
+pub(crate) fn stated(head: Head, value: Value, status: Status, decision: Decision) -> Head
+    ensures { λ r. ⌜ r ≡ statedOf head value status decision ⌝ }
 {
     Head {
-        n: 0,
-        own: 0,
-        phase: 0,
-        value: Value::Zero,
-        status: Status::Undecided,
-        decision: Decision::Zero,
-        zeros: 0,
-        ones: 0,
-        blanks: 0,
+        n: head.n,
+        own: head.own,
+        phase: head.phase,
+        value: value,
+        status: status,
+        decision: decision,
+        zeros: head.zeros,
+        ones: head.ones,
+        blanks: head.blanks,
     }
 }

@@ -12,6 +12,7 @@ mod step;
 mod ticks;
 
 pub use ballot::read;
+pub use head::own_ballot;
 pub use head::send;
 pub use head::sound;
 pub use head::start;

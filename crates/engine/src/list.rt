@@ -1,15 +1,16 @@
 // Looking at a list of ballots: each is read from its bytes when it is looked at.
 ghost use mathlib.Core.Path.{_≡_};
 ghost use mathlib.Core.Bool.{false, cond, _||_};
-ghost use Prim.Native.Nat.{ℕ, _<_, _≤_, _/_};
-ghost use lib.ListN.{length};
+ghost use Prim.Native.Nat.{ℕ, _<_, _≤_};
 ghost use Rattle.rules.specs.Below.{first};
 ghost use Rattle.rules.specs.Ballot.{breaksRule, ballotAt};
 ghost use Rattle.rules.specs.Tick.{ballots as ballotsOf, ahead as aheadOf, leader as leaderOf, copying as copyingOf, sameState, ownOtherwise, differ as differOf, heldOtherwise};
-use crate::ballot::ballot_at;
 use crate::ballot::breaks_rule;
 use crate::head::own_ballot;
 use crate::head::stands_under;
+use crate::head::stated;
+use codes::BALLOT_BYTES;
+use codes::ballot_at;
 use codes::status_code;
 use codes::value_code;
 use rules::Ballot;
@@ -18,10 +19,10 @@ use rules::Head;
 // The first ballot that breaks a ballot rule; where there is none, the number of ballots. So in
 // each search below.
 pub(crate) fn first_breaking(n: u8, ballots: &[u8], from: usize) -> usize
-    requires { ⌜ (from ≤ length (now ballots) / 5) × ((j : ℕ) → j < from → breaksRule n (now ballots) j ≡ false) ⌝ }
+    requires { ⌜ (from ≤ ballotsOf (now ballots)) × ((j : ℕ) → j < from → breaksRule n (now ballots) j ≡ false) ⌝ }
     ensures { λ r. ⌜ r ≡ first (ballotsOf (now (ballots .entry))) (breaksRule n (now (ballots .entry))) ⌝ }
 {
-    let count = ballots.len() / 5;
+    let count = ballots.len() / BALLOT_BYTES;
     let mut i = from;
     while i < count {
         if breaks_rule(n as u32, ballots, i) {
@@ -34,10 +35,10 @@ pub(crate) fn first_breaking(n: u8, ballots: &[u8], from: usize) -> usize
 
 // The first ballot under the head's own number that is ahead of the head or unlike it.
 pub(crate) fn first_own_otherwise(head: Head, ballots: &[u8], from: usize) -> usize
-    requires { ⌜ (from ≤ length (now ballots) / 5) × ((j : ℕ) → j < from → ownOtherwise head (ballotAt (now ballots) j) ≡ false) ⌝ }
+    requires { ⌜ (from ≤ ballotsOf (now ballots)) × ((j : ℕ) → j < from → ownOtherwise head (ballotAt (now ballots) j) ≡ false) ⌝ }
     ensures { λ r. ⌜ r ≡ first (ballotsOf (now (ballots .entry))) (λ i. ownOtherwise head (ballotAt (now (ballots .entry)) i)) ⌝ }
 {
-    let count = ballots.len() / 5;
+    let count = ballots.len() / BALLOT_BYTES;
     let mut i = from;
     while i < count {
         if own_otherwise(head, ballot_at(ballots, i)) {
@@ -52,7 +53,7 @@ pub(crate) fn first_own_otherwise(head: Head, ballots: &[u8], from: usize) -> us
 pub(crate) fn leader(ballots: &[u8]) -> usize
     ensures { λ r. ⌜ r ≡ leaderOf (now (ballots .entry)) ⌝ }
 {
-    let count = ballots.len() / 5;
+    let count = ballots.len() / BALLOT_BYTES;
     let mut best: usize = 0;
     let mut i: usize = 1;
     while i < count {
@@ -64,7 +65,7 @@ pub(crate) fn leader(ballots: &[u8]) -> usize
 
 // The index i where its ballot is ahead of the one at best, else best.
 fn leading(ballots: &[u8], i: usize, best: usize) -> usize
-    requires { ⌜ (i < length (now ballots) / 5) × (best < length (now ballots) / 5) ⌝ }
+    requires { ⌜ (i < ballotsOf (now ballots)) × (best < ballotsOf (now ballots)) ⌝ }
     ensures { λ r. ⌜ r ≡ cond (aheadOf (ballotAt (now (ballots .entry)) i) (ballotAt (now (ballots .entry)) best)) i best ⌝ }
 {
     if ahead(ballot_at(ballots, i), ballot_at(ballots, best)) {
@@ -86,17 +87,12 @@ pub(crate) fn copying(head: Head, ballot: Ballot) -> Head
     let value = ballot.value;
     let status = ballot.status;
     let decision = head.decision;
-    Head {
-        n: head.n,
-        own: head.own,
-        phase: ballot.phase,
-        value: value,
-        status: status,
-        decision: decision,
-        zeros: 0,
-        ones: 0,
-        blanks: 0,
-    }
+    let mut copy = stated(head, value, status, decision);
+    copy.phase = ballot.phase;
+    copy.zeros = 0;
+    copy.ones = 0;
+    copy.blanks = 0;
+    copy
 }
 
 fn own_otherwise(head: Head, ballot: Ballot) -> bool
@@ -109,7 +105,7 @@ fn own_otherwise(head: Head, ballot: Ballot) -> bool
 
 // The first ballot before index i that differs from the one there.
 pub(crate) fn first_differing(ballots: &[u8], i: usize) -> usize
-    requires { ⌜ i < length (now ballots) / 5 ⌝ }
+    requires { ⌜ i < ballotsOf (now ballots) ⌝ }
     ensures { λ r. ⌜ r ≡ first i (λ j. differOf (ballotAt (now (ballots .entry)) j) (ballotAt (now (ballots .entry)) i)) ⌝ }
 {
     let ballot = ballot_at(ballots, i);
@@ -135,7 +131,7 @@ fn differ(a: Ballot, b: Ballot) -> bool
 
 // Whether the ballot at index i is unlike the head under its own number, or unlike what is held.
 pub(crate) fn otherwise(head: Head, ballots: &[u8], i: usize) -> bool
-    requires { ⌜ i < length (now ballots) / 5 ⌝ }
+    requires { ⌜ i < ballotsOf (now ballots) ⌝ }
     ensures { λ r. ⌜ r ≡ ownOtherwise head (ballotAt (now (ballots .entry)) i) || heldOtherwise head (ballotAt (now (ballots .entry)) i) ⌝ }
 {
     let ballot = ballot_at(ballots, i);

@@ -2,9 +2,9 @@
 // thing at a phase in all that was looked at, and sets of senders tell whether the next one differs.
 ghost use mathlib.Core.Path.{_≡_};
 ghost use mathlib.Core.Bool.{true, cond, _&&_, _||_, not};
-ghost use Prim.Native.Nat.{ℕ, _<_, _≤_, _/_};
+ghost use Prim.Native.Nat.{ℕ, _<_, _≤_};
 ghost use lib.Dec.{eqb};
-ghost use lib.ListN.{length, getD};
+ghost use lib.ListN.{getD};
 ghost use Rattle.rules.specs.Below.{first};
 ghost use Rattle.rules.specs.Ballot.{ballotAt, breaksRule};
 ghost use Rattle.rules.specs.Heard.{member as memberOf};
@@ -23,6 +23,7 @@ use crate::said::phase_at;
 use crate::said::sender_at;
 use crate::said::stands;
 use crate::said::statuses_of;
+use codes::BALLOT_BYTES;
 use rules::Head;
 
 // What the first `next` ballots say, none of them refused. `phase`: the highest, the head's own
@@ -46,7 +47,7 @@ pub(crate) fn looked(head: Head, ballots: &[u8]) -> Look
     requires { ⌜ Fits head ⌝ }
     ensures { λ r. ⌜ r ≡ lookAt head (now (ballots .entry)) (first (ballotsOf (now (ballots .entry))) (refused head (now (ballots .entry)))) ⌝ }
 {
-    let count = ballots.len() / 5;
+    let count = ballots.len() / BALLOT_BYTES;
     let mut look = unlooked(head);
     while look.next < count {
         let from = look.next;
@@ -83,7 +84,7 @@ fn with_present(look: Look, head: Head, ballots: &[u8]) -> Look
     requires { ⌜ Fits head × Looks head (now ballots) look ⌝ }
     ensures { λ r. ⌜ Looks head (now (ballots .entry)) r × (look .next ≤ r .next) × (r .next < ballotsOf (now (ballots .entry)) → ballotAt (now (ballots .entry)) (r .next) .phase ≡ r .phase → refused head (now (ballots .entry)) (r .next) ≡ true) ⌝ }
 {
-    let count = ballots.len() / 5;
+    let count = ballots.len() / BALLOT_BYTES;
     let phase = look.phase;
     let codes = codes_of(class(phase));
     let statuses = statuses_of(class(phase));
@@ -147,7 +148,7 @@ fn with_late(look: Look, head: Head, ballots: &[u8]) -> Look
     requires { ⌜ Fits head × Looks head (now ballots) look ⌝ }
     ensures { λ r. ⌜ Looks head (now (ballots .entry)) r × (look .next ≤ r .next) × (r .next < ballotsOf (now (ballots .entry)) → ballotAt (now (ballots .entry)) (r .next) .phase < r .phase → refused head (now (ballots .entry)) (r .next) ≡ true) ⌝ }
 {
-    let count = ballots.len() / 5;
+    let count = ballots.len() / BALLOT_BYTES;
     let phase = look.phase;
     let mut elsewhere = look.elsewhere;
     let mut i = look.next;
@@ -167,7 +168,7 @@ fn with_late(look: Look, head: Head, ballots: &[u8]) -> Look
 // Whether a ballot of a lower phase than the look's is refused. Only where its sender has sent another
 // one of a lower phase are the earlier ballots searched.
 fn is_refused_late(elsewhere: u32, head: Head, ballots: &[u8], i: usize) -> bool
-    requires { ⌜ Fits head × (i < length (now ballots) / 5) × ((j : ℕ) → j < i → ballotAt (now ballots) j .phase ≡ ballotAt (now ballots) i .phase → ballotAt (now ballots) j .sender < 32 → memberOf (ballotAt (now ballots) j .sender) elsewhere ≡ true) ⌝ }
+    requires { ⌜ Fits head × (i < ballotsOf (now ballots)) × ((j : ℕ) → j < i → ballotAt (now ballots) j .phase ≡ ballotAt (now ballots) i .phase → ballotAt (now ballots) j .sender < 32 → memberOf (ballotAt (now ballots) j .sender) elsewhere ≡ true) ⌝ }
     ensures { λ r. ⌜ r ≡ refused head (now (ballots .entry)) i ⌝ }
 {
     if breaks_rule(head.n as u32, ballots, i) {
@@ -201,7 +202,7 @@ fn with_ahead(look: Look, head: Head, ballots: &[u8]) -> Look
     ensures { λ r. ⌜ Looks head (now (ballots .entry)) r × (look .next ≤ r .next) × (r .next < ballotsOf (now (ballots .entry)) → r .next ≡ look .next → r .phase < ballotAt (now (ballots .entry)) (r .next) .phase → refused head (now (ballots .entry)) (r .next) ≡ true) ⌝ }
 {
     let i = look.next;
-    if ballots.len() / 5 <= i {
+    if ballots.len() / BALLOT_BYTES <= i {
         return look;
     }
     if phase_at(ballots, i) <= look.phase {
@@ -228,7 +229,7 @@ fn with_ahead(look: Look, head: Head, ballots: &[u8]) -> Look
 // Whether a ballot of a higher phase than the look's is refused: by 6, or under the head's own number
 // by 7.
 fn is_refused_ahead(head: Head, ballots: &[u8], i: usize) -> bool
-    requires { ⌜ i < length (now ballots) / 5 ⌝ }
+    requires { ⌜ i < ballotsOf (now ballots) ⌝ }
     ensures { λ r. ⌜ r ≡ breaksRule (head .n) (now (ballots .entry)) i || eqb (ballotAt (now (ballots .entry)) i .sender) (head .own) ⌝ }
 {
     breaks_rule(head.n as u32, ballots, i) | (sender_at(ballots, i) == head.own)

@@ -6,7 +6,14 @@ ghost use lib.Dec.{ltb};
 ghost use lib.ListN.{length, getD};
 ghost use Rattle.rules.specs.Ballot.{ballotAt};
 ghost use Rattle.rules.specs.Heard.{member as memberOf, setOf};
+ghost use Rattle.rules.specs.Tick.{ballots as ballotsOf};
 ghost use Rattle.engine.specs.Look.{codeAt, statusesOf, codesOf, barredFrom, alone as aloneOf};
+use codes::BALLOT_BYTES;
+use codes::PHASE_HIGH;
+use codes::PHASE_LOW;
+use codes::SENDER;
+use codes::STATUS;
+use codes::VALUE;
 use codes::phase_of;
 use codes::status_code;
 use codes::value_code;
@@ -15,26 +22,26 @@ use rules::Head;
 
 // Of the ballot at index i.
 pub(crate) fn sender_at(ballots: &[u8], i: usize) -> u8
-    requires { ⌜ i < length (now ballots) / 5 ⌝ }
+    requires { ⌜ i < ballotsOf (now ballots) ⌝ }
     ensures { λ r. ⌜ r ≡ ballotAt (now (ballots .entry)) i .sender ⌝ }
 {
-    ballots[i * 5]
+    ballots[i * BALLOT_BYTES + SENDER]
 }
 
 pub(crate) fn phase_at(ballots: &[u8], i: usize) -> u16
-    requires { ⌜ i < length (now ballots) / 5 ⌝ }
+    requires { ⌜ i < ballotsOf (now ballots) ⌝ }
     ensures { λ r. ⌜ r ≡ ballotAt (now (ballots .entry)) i .phase ⌝ }
 {
-    let at = i * 5;
-    phase_of(ballots[at + 3], ballots[at + 4])
+    let at = i * BALLOT_BYTES;
+    phase_of(ballots[at + PHASE_HIGH], ballots[at + PHASE_LOW])
 }
 
 pub(crate) fn code_at(ballots: &[u8], i: usize) -> usize
-    requires { ⌜ i < length (now ballots) / 5 ⌝ }
+    requires { ⌜ i < ballotsOf (now ballots) ⌝ }
     ensures { λ r. ⌜ r ≡ codeAt (now (ballots .entry)) i ⌝ }
 {
-    let at = i * 5;
-    code_of(ballots[at + 1], ballots[at + 2])
+    let at = i * BALLOT_BYTES;
+    code_of(ballots[at + VALUE], ballots[at + STATUS])
 }
 
 // Two for each value.
@@ -46,11 +53,11 @@ fn code_of(value: u8, status: u8) -> usize
 
 // Whether its sender and codes stand within the bounds.
 pub(crate) fn stands(n: u8, codes: usize, statuses: u8, ballots: &[u8], i: usize) -> bool
-    requires { ⌜ i < length (now ballots) / 5 ⌝ }
+    requires { ⌜ i < ballotsOf (now ballots) ⌝ }
     ensures { λ r. ⌜ r ≡ ltb (getD (now (ballots .entry)) (i * 5) 0) n && (ltb (getD (now (ballots .entry)) (i * 5 + 2) 0) statuses && ltb (codeAt (now (ballots .entry)) i) codes) ⌝ }
 {
-    let at = i * 5;
-    (ballots[at] < n) & ((ballots[at + 2] < statuses) & (code_at(ballots, i) < codes))
+    let at = i * BALLOT_BYTES;
+    (ballots[at + SENDER] < n) & ((ballots[at + STATUS] < statuses) & (code_at(ballots, i) < codes))
 }
 
 // The ballot rules at phases of a class, as two bounds.

@@ -6,8 +6,9 @@ ghost use lib.Dec.{eqb};
 ghost use Rattle.rules.specs.Ballot.{statusCode};
 ghost use Rattle.rules.specs.Head.{decisionFor as decisionForOf};
 ghost use Rattle.rules.specs.Tick.{quorum as quorumOf, majority as majorityOf, risen as risenOf, stepValue, stepStatus, settled as settledOf};
+use crate::head::stated;
 use crate::heard::heard;
-use crate::heard::size;
+use codes::size;
 use codes::status_code;
 use codes::value_of;
 use rules::Decision;
@@ -21,17 +22,12 @@ pub(crate) fn risen(head: Head, coin: u8) -> Head
     ensures { λ r. ⌜ r ≡ risenOf head coin ⌝ }
 {
     let decision = head.decision;
-    Head {
-        n: head.n,
-        own: head.own,
-        phase: head.phase + 1,
-        value: step_value(head, coin),
-        status: step_status(head),
-        decision: decision,
-        zeros: 0,
-        ones: 0,
-        blanks: 0,
-    }
+    let mut risen = stated(head, step_value(head, coin), step_status(head), decision);
+    risen.phase = head.phase + 1;
+    risen.zeros = 0;
+    risen.ones = 0;
+    risen.blanks = 0;
+    risen
 }
 
 // Step 4: "If decided, the decision is the value."
@@ -41,17 +37,12 @@ pub(crate) fn settled(head: Head) -> Head
     let value = head.value;
     let status = head.status;
     let decision = head.decision;
-    Head {
-        n: head.n,
-        own: head.own,
-        phase: head.phase,
-        value: value,
-        status: status,
-        decision: settled_decision(status, value, decision),
-        zeros: head.zeros,
-        ones: head.ones,
-        blanks: head.blanks,
-    }
+    stated(
+        head,
+        value,
+        status,
+        settled_decision(status, value, decision),
+    )
 }
 
 // Whether step 3 is taken.

@@ -1,13 +1,11 @@
 // One tick: the refusals in number order, and the four steps.
 ghost use mathlib.Core.Path.{_≡_};
 ghost use mathlib.Core.Bool.{true, cond};
-ghost use Prim.Native.Nat.{_<_, _/_};
-ghost use lib.ListN.{length};
+ghost use Prim.Native.Nat.{_<_};
 ghost use Rattle.rules.specs.Below.{first};
 ghost use Rattle.rules.specs.Head.{sound as soundOf};
 ghost use Rattle.rules.specs.Tick.{tickOf, notList, bothHeard, decidesOtherwise, settled as settledOf, ballots as ballotsOf, gathered as gatheredOf};
 ghost use Rattle.engine.specs.Look.{listened as listenedOf, ended as endedOf, refused as refusedOf, shown as shownOf, Looks};
-use crate::ballot::ballot_at;
 use crate::head::decision_is_value;
 use crate::head::is_decided;
 use crate::head::is_written;
@@ -22,6 +20,9 @@ use crate::said::either;
 use crate::step::quorum;
 use crate::step::risen;
 use crate::step::settled;
+use codes::BALLOT_BYTES;
+use codes::LIST_BYTES_MOST;
+use codes::ballot_at;
 use codes::value_code;
 use rules::Head;
 use rules::Ticked;
@@ -81,7 +82,7 @@ fn listened(head: Head, ballots: &[u8]) -> Ticked
     ensures { λ r. ⌜ r ≡ listenedOf head (now (ballots .entry)) ⌝ }
 {
     let look = looked(head, ballots);
-    if look.next < ballots.len() / 5 {
+    if look.next < ballots.len() / BALLOT_BYTES {
         return refused(head, ballots, look.next);
     }
     answer(0, gathered(head, look, ballots))
@@ -89,10 +90,10 @@ fn listened(head: Head, ballots: &[u8]) -> Ticked
 
 // Of a list whose first refused ballot is at that index: 6 or 7 where one there or later gives it, else 8.
 fn refused(head: Head, ballots: &[u8], at: usize) -> Ticked
-    requires { ⌜ (at < length (now ballots) / 5) × (at ≡ first (ballotsOf (now ballots)) (refusedOf head (now ballots))) ⌝ }
+    requires { ⌜ (at < ballotsOf (now ballots)) × (at ≡ first (ballotsOf (now ballots)) (refusedOf head (now ballots))) ⌝ }
     ensures { λ r. ⌜ r ≡ listenedOf head (now (ballots .entry)) ⌝ }
 {
-    let count = ballots.len() / 5;
+    let count = ballots.len() / BALLOT_BYTES;
     if first_breaking(head.n, ballots, at) < count {
         return answer(6, head);
     }
@@ -117,20 +118,11 @@ fn gathered(head: Head, look: Look, ballots: &[u8]) -> Head
 fn shown(head: Head, look: Look) -> Head
     ensures { λ r. ⌜ r ≡ shownOf head look ⌝ }
 {
-    let value = head.value;
-    let status = head.status;
-    let decision = head.decision;
-    Head {
-        n: head.n,
-        own: head.own,
-        phase: head.phase,
-        value: value,
-        status: status,
-        decision: decision,
-        zeros: either(head.zeros, look.zeros, look.zeros_decided),
-        ones: either(head.ones, look.ones, look.ones_decided),
-        blanks: either(head.blanks, look.blanks, 0),
-    }
+    let mut shown = head;
+    shown.zeros = either(head.zeros, look.zeros, look.zeros_decided);
+    shown.ones = either(head.ones, look.ones, look.ones_decided);
+    shown.blanks = either(head.blanks, look.blanks, 0);
+    shown
 }
 
 fn answer(number: u8, head: Head) -> Ticked
@@ -145,7 +137,7 @@ fn answer(number: u8, head: Head) -> Ticked
 fn not_list(ballots: &[u8]) -> bool
     ensures { λ r. ⌜ r ≡ notList (now (ballots .entry)) ⌝ }
 {
-    !(ballots.len() % 5 == 0) | (320 < ballots.len())
+    !(ballots.len() % BALLOT_BYTES == 0) | (LIST_BYTES_MOST < ballots.len())
 }
 
 fn both_heard(head: Head) -> bool

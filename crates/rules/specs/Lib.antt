@@ -1,3 +1,4 @@
+pub mod Sizes
 pub mod Number
 pub mod Below
 pub mod Ballot

@@ -13,7 +13,8 @@ use Rattle.rules.specs.Number.{firstThatApplies}
 use Rattle.rules.specs.Head.{sound, startOf, sendOf}
 use Rattle.rules.specs.Tick.{tickOf}
 use Rattle.rules.specs.Record.{recordOf, isRecord, headAt, notSound, startNumberFromC, recordAfterStart, tickNumberFromC, recordAfterTick, sendNumberFromC, bufferAfterSend}
-use Rattle.rules.proofs.Answers.{start-number, starts-number, tick-number, send-sound, send-unsound, send-bytes}
+use Rattle.rules.proofs.Answers.{start-number, starts-number, tick-number, record-length, send-sound, send-unsound, send-bytes}
+use Rattle.codes.proofs.Held.{heldIn, head-held}
 
 -- ---- a start
 
@@ -49,9 +50,9 @@ pub tick-no-record : (r l : List ℕ) (coin : ℕ) → isRecord r ≡ false → 
 unfolding tickNumberFromC recordAfterTick
 tick-no-record r l coin uncoded = (simp uncoded, simp uncoded)
 
-module _ (r l : List ℕ) (coin : ℕ) (h : Head) (t : Ticked) (coded : isRecord r ≡ true) (held : h ≡ headAt r) (is : t ≡ tickOf h l coin) where
+module _ (r l : List ℕ) (coin : ℕ) (h : Head) (t : Ticked) (coded : isRecord r ≡ true) (held : h ≡ heldIn r) (is : t ≡ tickOf h l coin) where
   from-record : t ≡ tickOf (headAt r) l coin
-  from-record = is ∙ ap (λ (g : Head). tickOf g l coin) held
+  from-record = is ∙ ap (λ (g : Head). tickOf g l coin) (head-held r held (record-length r coded))
 
   pub tick-refused : (t .number ≡ 0 → ⊥) → Ticks r l coin (t .number) r
   unfolding tickNumberFromC recordAfterTick
@@ -79,9 +80,9 @@ pub send-five : (h : Head) (w : Written) → w ≡ sendOf h → w .number ≡ 0 
 send-five h w is zero =
     ap length (ap (λ (x : Written). x .bytes) is ∙ send-bytes h (send-sound h (sym (ap (λ (x : Written). x .number) is) ∙ zero)))
 
-module _ (r buffer : List ℕ) (h : Head) (w : Written) (coded : isRecord r ≡ true) (held : h ≡ headAt r) (is : w ≡ sendOf h) where
+module _ (r buffer : List ℕ) (h : Head) (w : Written) (coded : isRecord r ≡ true) (held : h ≡ heldIn r) (is : w ≡ sendOf h) where
   from-held : w ≡ sendOf (headAt r)
-  from-held = is ∙ ap sendOf held
+  from-held = is ∙ ap sendOf (head-held r held (record-length r coded))
 
   pub send-refused : (w .number ≡ 0 → ⊥) → Sends r buffer 3 (replicate (length buffer) 0)
   unfolding sendNumberFromC bufferAfterSend notSound firstThatApplies

@@ -1,17 +1,14 @@
 // The entries for C, on records of 20 bytes, around the engine by value. Nothing else of the library
 // is exported.
 ghost use mathlib.Core.Path.{_≡_};
-ghost use Prim.Native.Nat.{_+_, _*_};
 ghost use lib.ListN.{length, replicate};
-ghost use Rattle.rules.specs.Record.{recordOf, isRecord, headAt, startNumberFromC, recordAfterStart, tickNumberFromC, recordAfterTick, sendNumberFromC, bufferAfterSend};
-use codes::decision_code;
-use codes::decision_of;
-use codes::four_bytes_of;
-use codes::phase_of;
-use codes::status_code;
-use codes::status_of;
-use codes::value_code;
-use codes::value_of;
+ghost use Rattle.rules.specs.Sizes.{recordBytes};
+ghost use Rattle.rules.specs.Record.{recordOf, startNumberFromC, recordAfterStart, tickNumberFromC, recordAfterTick, sendNumberFromC, bufferAfterSend};
+use codes::BALLOT_BYTES;
+use codes::RECORD_BYTES;
+use codes::head_at;
+use codes::is_record;
+use codes::record_of;
 use engine::send;
 use engine::start;
 use engine::tick;
@@ -25,7 +22,7 @@ pub extern "C" fn vote_start(head_record: &mut [u8], n: u32, own: u32, proposal:
     if started.number != 0 {
         return started.number as u32;
     }
-    if head_record.len() != 20 {
+    if head_record.len() != RECORD_BYTES {
         return 3;
     }
     let head = started.head;
@@ -62,7 +59,7 @@ pub extern "C" fn vote_ballot(head_record: &[u8], ballot: &mut [u8]) -> u32
         clear(ballot);
         return 3;
     }
-    if ballot.len() != 5 {
+    if ballot.len() != BALLOT_BYTES {
         clear(ballot);
         return 5;
     }
@@ -71,88 +68,13 @@ pub extern "C" fn vote_ballot(head_record: &[u8], ballot: &mut [u8]) -> u32
     0
 }
 
-fn is_record(head_record: &[u8]) -> bool
-    ensures { λ r. ⌜ r ≡ isRecord (now (head_record .entry)) ⌝ }
-{
-    if head_record.len() != 20 {
-        return false;
-    }
-    (head_record[4] < 3) & ((head_record[5] < 2) & ((head_record[6] < 3) & (head_record[7] == 0)))
-}
-
-fn head_at(head_record: &[u8]) -> Head
-    requires { ⌜ length (now head_record) ≡ 20 ⌝ }
-    ensures { λ r. ⌜ r ≡ headAt (now (head_record .entry)) ⌝ }
-{
-    Head {
-        n: head_record[0],
-        own: head_record[1],
-        phase: phase_of(head_record[2], head_record[3]),
-        value: value_of(head_record[4]),
-        status: status_of(head_record[5]),
-        decision: decision_of(head_record[6]),
-        zeros: four_bytes_of(
-            head_record[8],
-            head_record[9],
-            head_record[10],
-            head_record[11],
-        ),
-        ones: four_bytes_of(
-            head_record[12],
-            head_record[13],
-            head_record[14],
-            head_record[15],
-        ),
-        blanks: four_bytes_of(
-            head_record[16],
-            head_record[17],
-            head_record[18],
-            head_record[19],
-        ),
-    }
-}
-
 // Writes the head over the whole record.
 fn store(head_record: &mut [u8], head: Head)
-    requires { ⌜ length (now head_record) ≡ 20 ⌝ }
+    requires { ⌜ length (now head_record) ≡ recordBytes ⌝ }
     ensures { λ _. ⌜ now (head_record .exit) ≡ recordOf head ⌝ }
 {
     let twenty = record_of(head);
     bytes::copy(&twenty, head_record);
-}
-
-fn record_of(head: Head) -> [u8; 20]
-    ensures { λ r. ⌜ r ≡ recordOf head ⌝ }
-{
-    let value = head.value;
-    let status = head.status;
-    let decision = head.decision;
-    let phase = head.phase;
-    let zeros = head.zeros;
-    let ones = head.ones;
-    let blanks = head.blanks;
-    [
-        head.n,
-        head.own,
-        (phase / 256) as u8,
-        (phase % 256) as u8,
-        value_code(value),
-        status_code(status),
-        decision_code(decision),
-        0,
-        (zeros / 16777216) as u8,
-        (zeros / 65536 % 256) as u8,
-        (zeros / 256 % 256) as u8,
-        (zeros % 256) as u8,
-        (ones / 16777216) as u8,
-        (ones / 65536 % 256) as u8,
-        (ones / 256 % 256) as u8,
-        (ones % 256) as u8,
-        (blanks / 16777216) as u8,
-        (blanks / 65536 % 256) as u8,
-        (blanks / 256 % 256) as u8,
-        (blanks % 256) as u8,
-    ]
 }
 
 // Every byte zero.

@@ -21,7 +21,7 @@ returns : tie.Need-returns
 returns c = let done = send-no-record _ _ (sym (c .before .before .before .before .before .is-record .ensures) ∙ not-true (c .before .before .before .before .before .is-record .result) (c .before .before .before .before .if1 .taken)) in (done .0, c .before .before .clear .ensures ∙ done .1)
 
 head-at-requires : tie.Need-head-at-requires
-head-at-requires c κs = record-length _ (sym (c .before .is-record .ensures) ∙ not-false (c .before .is-record .result) (c .if1 .left))
+head-at-requires c κs = search needs
 
 send-requires : tie.Need-send-requires
 send-requires c κs = search needs

@@ -16,7 +16,7 @@ returns : tie.Need-returns
 returns c = tick-no-record _ _ _ (sym (c .before .is-record .ensures) ∙ not-true (c .before .is-record .result) (c .if1 .taken))
 
 head-at-requires : tie.Need-head-at-requires
-head-at-requires c κs = record-length _ (sym (c .before .before .is-record .ensures) ∙ not-false (c .before .before .is-record .result) (c .before .if1 .left))
+head-at-requires c κs = search needs
 
 tick-requires : tie.Need-tick-requires
 tick-requires c κs = search needs

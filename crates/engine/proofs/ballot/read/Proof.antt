@@ -1,7 +1,9 @@
 use borrow.Author.Tests.{ne-eqb, eq-eqb}
 use Rattle.rules.specs.Ballot.{readNumber, readBallot}
 use Rattle.rules.specs.Number.{firstThatApplies}
+use native.Mathlib.Omega.{arith}
 use borrow.Author.Needs.{needs}
+use Rattle.codes.proofs.Held.{ballot-there}
 use Rattle.engine.proofs.ballot.read.Statement.{statement}
 use Rattle.engine.proofs.ballot.read.Tie as tie
 
@@ -28,7 +30,7 @@ ballot-at-requires c κs = search needs
 
 returns-4 : tie.Need-returns-4
 unfolding readNumber readBallot firstThatApplies
-returns-4 c = (simp (← c .before .before .before .before .before .not-heads .ensures, c .before .before .before .before .if1 .left, eq-eqb _ _ (c .before .before .before .if2 .left), ← c .before .before .breaks-rule .ensures, c .before .if3 .left), simp (← c .before .before .before .before .before .not-heads .ensures, c .before .before .before .before .if1 .left, eq-eqb _ _ (c .before .before .before .if2 .left), ← c .before .before .breaks-rule .ensures, c .before .if3 .left, c .ballot-at .ensures))
+returns-4 c = (simp (← c .before .before .before .before .before .not-heads .ensures, c .before .before .before .before .if1 .left, eq-eqb _ _ (c .before .before .before .if2 .left), ← c .before .before .breaks-rule .ensures, c .before .if3 .left), simp (← c .before .before .before .before .before .not-heads .ensures, c .before .before .before .before .if1 .left, eq-eqb _ _ (c .before .before .before .if2 .left), ← c .before .before .breaks-rule .ensures, c .before .if3 .left, ballot-there (c .before .before .before .before .before .before .before .args .bytes .now) 0 (c .ballot-at .ensures) (omega (arith, c .before .before .before .if2 .left))))
 
 pub read-spec : {M : Type 1} → statement M
 read-spec =

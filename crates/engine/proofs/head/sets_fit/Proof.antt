@@ -3,6 +3,9 @@ use borrow.Author.Needs.{needs}
 use Rattle.engine.proofs.head.sets_fit.Statement.{statement}
 use Rattle.engine.proofs.head.sets_fit.Tie as tie
 
+cast-n : tie.Need-cast-n
+cast-n c = search needs
+
 apart-requires : tie.Need-apart-requires
 apart-requires c κs = search needs
 
@@ -29,6 +32,7 @@ pub sets-fit-spec : {M : Type 1} → statement M
 sets-fit-spec =
     tie.close
     (tie.spec
+    cast-n
     apart-requires
     apart-requires-2
     apart-requires-3

@@ -1,7 +1,5 @@
 use Rattle.rules.specs.Head.{sound}
 use borrow.Author.Tests.{lt-ltb, le-ltb}
-use Rattle.rules.proofs.Meanings.{heads}
-use mathlib.Core.Path.{sym, _∙_}
 use borrow.Author.Needs.{needs}
 use Rattle.engine.proofs.head.sound.Statement.{statement}
 use Rattle.engine.proofs.head.sound.Tie as tie
@@ -33,7 +31,7 @@ decision-fits-requires : tie.Need-decision-fits-requires
 decision-fits-requires c κs = search needs
 
 sets-fit-requires : tie.Need-sets-fit-requires
-sets-fit-requires c κs = heads _ (sym (c .before .before .before .before .before .before .before .not-heads .ensures) ∙ c .before .before .before .before .before .before .if1 .left) .1
+sets-fit-requires c κs = search needs
 
 phase-fits-requires : tie.Need-phase-fits-requires
 phase-fits-requires c κs = search needs

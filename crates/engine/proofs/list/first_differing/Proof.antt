@@ -4,6 +4,7 @@ use Rattle.rules.proofs.Below.{NoneBefore, none-more, search-starts, search-fin
 use Rattle.rules.specs.Ballot.{ballotAt}
 use Rattle.rules.specs.Tick.{differ}
 use native.Mathlib.Omega.{arith}
+use Rattle.codes.proofs.Held.{ballot-there}
 use Rattle.engine.proofs.list.first_differing.Statement.{statement}
 use Rattle.engine.proofs.list.first_differing.Tie as tie
 
@@ -14,19 +15,19 @@ abbrev μ-loop : tie.MeasureT-loop
 μ-loop ballots i ballot j₀ j = i - j
 
 ballot-at-requires : tie.Need-ballot-at-requires Inv-loop μ-loop
-ballot-at-requires c κs = omega arith
+ballot-at-requires c κs = tt
 
 loop-holds : tie.Need-loop-holds Inv-loop μ-loop
 loop-holds c = (omega arith, search-starts _)
 
 ballot-at-requires-2 : tie.Need-ballot-at-requires-2 Inv-loop μ-loop
-ballot-at-requires-2 c κs = omega arith
+ballot-at-requires-2 c κs = tt
 
 differ-requires : tie.Need-differ-requires Inv-loop μ-loop
 differ-requires c κs = tt
 
 returns : tie.Need-returns Inv-loop μ-loop
-returns c = search-finds _ _ _ (c .before .before .before .before .loop .inv .1) (sym (c .before .differ .ensures ∙ ap₂ differ (c .before .before .ballot-at2 .ensures) (c .before .before .before .before .before .ballot-at .ensures)) ∙ c .if1 .taken) (c .before .before .before .loop-test .taken)
+returns c = search-finds _ _ _ (c .before .before .before .before .loop .inv .1) (sym (c .before .differ .ensures ∙ ap₂ differ (ballot-there (c .before .before .before .before .before .before .before .args .ballots .now) (c .before .before .before .before .loop .j) (c .before .before .ballot-at2 .ensures) (omega arith)) (ballot-there (c .before .before .before .before .before .before .before .args .ballots .now) (c .before .before .before .before .before .before .before .args .i) (c .before .before .before .before .before .ballot-at .ensures) (omega arith))) ∙ c .if1 .taken) (c .before .before .before .loop-test .taken)
 
 add-j : tie.Need-add-j Inv-loop μ-loop
 add-j c = omega arith
@@ -35,7 +36,7 @@ loop-less : tie.Need-loop-less Inv-loop μ-loop
 loop-less c = omega arith
 
 loop-again : tie.Need-loop-again Inv-loop μ-loop
-loop-again c = (omega arith, none-more (c .before .before .before .before .loop .inv .1) (sym (c .before .differ .ensures ∙ ap₂ differ (c .before .before .ballot-at2 .ensures) (c .before .before .before .before .before .ballot-at .ensures)) ∙ c .if1 .left))
+loop-again c = (omega arith, none-more (c .before .before .before .before .loop .inv .1) (sym (c .before .differ .ensures ∙ ap₂ differ (ballot-there (c .before .before .before .before .before .before .before .args .ballots .now) (c .before .before .before .before .loop .j) (c .before .before .ballot-at2 .ensures) (omega arith)) (ballot-there (c .before .before .before .before .before .before .before .args .ballots .now) (c .before .before .before .before .before .before .before .args .i) (c .before .before .before .before .before .ballot-at .ensures) (omega arith))) ∙ c .if1 .left))
 
 returns-2 : tie.Need-returns-2 Inv-loop μ-loop
 returns-2 c = search-ends _ _ _ (c .before .loop .inv .1) (c .before .loop .inv .0) (c .loop-test .left)

@@ -1,7 +1,10 @@
+use Prim.Native.Nat.{_<_}
 use mathlib.Core.Path.{ap, _∙_}
 use native.Mathlib.Omega.{arith}
 use Rattle.rules.specs.Ballot.{ballotAt}
-use Rattle.rules.specs.Tick.{copying}
+use Rattle.rules.specs.Tick.{leader, ballots, copying}
+use Rattle.codes.proofs.Held.{ballot-there}
+use Rattle.engine.specs.Look.{highest}
 use Rattle.engine.proofs.Gathering.{look-phase, leader-there, moved-ahead, moved-not, shown-gathered}
 use borrow.Author.Needs.{needs}
 use Rattle.engine.proofs.ticks.gathered.Statement.{statement}
@@ -11,7 +14,7 @@ leader-requires : tie.Need-leader-requires
 leader-requires c κs = search needs
 
 ballot-at-requires : tie.Need-ballot-at-requires
-ballot-at-requires c κs = omega (arith, c .leader .ensures, leader-there (c .before .before .before .before .before .args .head) (c .before .before .before .before .before .args .ballots .now) (omega (arith, look-phase _ _ _ (c .before .before .before .before .before .pre .0) (c .before .before .before .before .before .pre .1), c .before .if1 .taken)))
+ballot-at-requires c κs = search needs
 
 copying-requires : tie.Need-copying-requires
 copying-requires c κs = search needs
@@ -21,11 +24,12 @@ shown-requires c κs = search needs
 
 returns : tie.Need-returns
 returns c =
+    let above : c .before .before .before .before .before .before .before .before .args .head .phase < highest (c .before .before .before .before .before .before .before .before .args .head) (c .before .before .before .before .before .before .before .before .args .ballots .now) (ballots (c .before .before .before .before .before .before .before .before .args .ballots .now)) = omega (arith, look-phase _ _ _ (c .before .before .before .before .before .before .before .before .pre .0) (c .before .before .before .before .before .before .before .before .pre .1), c .before .before .before .before .if1 .taken) in
     c .shown .ensures
     ∙ shown-gathered _ _ _ (c .before .before .before .before .before .before .before .before .pre .0) (c .before .before .before .before .before .before .before .before .pre .1) _
     (c .before .copying .ensures
-    ∙ ap (copying (c .before .before .before .before .before .before .before .before .args .head)) (c .before .before .ballot-at .ensures ∙ ap (ballotAt (c .before .before .before .before .before .before .before .before .args .ballots .now)) (c .before .before .before .leader .ensures))
-    ∙ moved-ahead _ _ (omega (arith, look-phase _ _ _ (c .before .before .before .before .before .before .before .before .pre .0) (c .before .before .before .before .before .before .before .before .pre .1), c .before .before .before .before .if1 .taken)))
+    ∙ ap (copying (c .before .before .before .before .before .before .before .before .args .head)) (ballot-there (c .before .before .before .before .before .before .before .before .args .ballots .now) (c .before .before .before .leader .result) (c .before .before .ballot-at .ensures) (omega (arith, c .before .before .before .leader .ensures, leader-there (c .before .before .before .before .before .before .before .before .args .head) (c .before .before .before .before .before .before .before .before .args .ballots .now) above)) ∙ ap (ballotAt (c .before .before .before .before .before .before .before .before .args .ballots .now)) (c .before .before .before .leader .ensures))
+    ∙ moved-ahead _ _ above)
 
 shown-requires-2 : tie.Need-shown-requires-2
 shown-requires-2 c κs = search needs

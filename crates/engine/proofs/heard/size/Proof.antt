@@ -1,9 +1,0 @@
-use Rattle.rules.proofs.Sets.{size-ones}
-use Rattle.engine.proofs.heard.size.Statement.{statement}
-use Rattle.engine.proofs.heard.size.Tie as tie
-
-returns : tie.Need-returns
-returns c = size-ones _ (c .fits .set .fits)
-
-pub size-spec : {M : Type 1} → statement M
-size-spec = tie.close (tie.spec returns)
