@@ -1,4 +1,8 @@
 pub mod Only
-pub mod Growing
-pub mod Plain
 pub mod Listening
+pub mod Growing
+pub mod Bounds
+pub mod Refusing
+pub mod Looking
+pub mod Barred
+pub mod Gathering

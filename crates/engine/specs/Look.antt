@@ -1,19 +1,21 @@
 -- What the functions of `engine` hand to one another: a tick's answer in two parts, and what one look at a list of ballots
 -- shows.
-use Prim.Native.Nat.{ℕ, zero, suc}
+use Prim.Native.Nat.{ℕ, zero, suc, _+_, _*_, _/_, _%_, _≤_, _<_}
+use mathlib.Core.Path.{_≡_}
 use mathlib.Core.List.{List, [], _∷_}
-use mathlib.Core.Bool.{Bool, true, false, cond, _&&_, _||_, not}
+use mathlib.Core.Bool.{Bool, false, cond, _&&_, _||_}
 use lib.Dec.{ltb, eqb}
-use lib.Bits.{bitOr}
+use lib.ListN.{getD}
 use Rattle.rules.specs.declared.Ballot.{Ballot}
 use Rattle.rules.specs.declared.Head.{Head}
 use Rattle.rules.specs.declared.Ticked.{Ticked}
+use Rattle.rules.specs.declared.Class.{Class}
+use Rattle.rules.specs.declared.Class.the-variants.{Never, First, Second, Odd, Even}
 use Rattle.rules.specs.Number.{_when_, firstThatApplies}
 use Rattle.rules.specs.Below.{some}
-use Rattle.rules.specs.Ballot.{valueCode, statusCode, ballotAt, breaksRule}
-use Rattle.rules.specs.Heard.{member, setOf, apart}
-use Rattle.rules.specs.Head.{standsUnder}
-use Rattle.rules.specs.Tick.{ballots, ownOtherwise, contradicts, gathered, bothHeard, phasesEnd, decidesOtherwise, stepped, settled}
+use Rattle.rules.specs.Ballot.{valueCode, valueOf, statusCode, statusOf, ballotAt, breaksRule}
+use Rattle.rules.specs.Heard.{member, setOf}
+use Rattle.rules.specs.Tick.{ballots, ownOtherwise, heldOtherwise, contradicts, gathered, bothHeard, phasesEnd, decidesOtherwise, stepped, settled}
 use Rattle.engine.specs.declared.look.Look.{Look}
 
 -- the numbers that a list of ballots gives: 6 to 8
@@ -40,56 +42,102 @@ unfoldable pub ended : Head → Head → ℕ → Ticked
 ended h g coin =
     record { number = endNumber g coin; head = cond (eqb (endNumber g coin) 0) (settled (stepped g coin)) h }
 
+-- ---- one ballot
+
+-- the ballot at index i gives 6, 7 or 8
+unfoldable pub refused : Head → List ℕ → ℕ → Bool
+refused h l i = breaksRule (h .n) l i || (ownOtherwise h (ballotAt l i) || contradicts h l i)
+
+-- a value and a status in one number, two for each value: of a ballot, and of the codes at index i
+abbrev pub code : Ballot → ℕ
+code b = valueCode (b .value) * 2 + statusCode (b .status)
+
+abbrev pub codeAt : List ℕ → ℕ → ℕ
+codeAt l i = getD l (i * 5 + 1) 0 * 2 + getD l (i * 5 + 2) 0
+
+-- the ballot rules at phases of a class, as two bounds: how many statuses are allowed, and how many of those numbers
+abbrev pub statusesOf : Class → ℕ
+statusesOf Never = 0
+statusesOf First = 1
+statusesOf Second = 1
+statusesOf Odd = 2
+statusesOf Even = 2
+
+abbrev pub codesOf : Class → ℕ
+codesOf Never = 0
+codesOf First = 4
+codesOf Second = 5
+codesOf Odd = 4
+codesOf Even = 5
+
+-- the ballot of head s at phase p with that value and status
+abbrev pub ballotBy : ℕ → ℕ → ℕ → Ballot
+ballotBy s c p = record { sender = s; value = valueOf (c / 2); status = statusOf (c % 2); phase = p }
+
+-- ---- sets of senders
+
 -- the set of one head
 abbrev pub alone : ℕ → ℕ
 alone sender = setOf 32 (λ s. eqb sender s)
 
--- before the first ballot
-abbrev pub begun : Head → Look
-begun h =
-    record { plain = true; above = false; zeros = h .zeros; ones = h .ones; blanks = h .blanks; undecided = 0; decided = 0; elsewhere = 0 }
+-- the heads whose ballot of phase p with that value and status gives 7, or 8 by what is held
+abbrev pub barredFrom : Head → ℕ → ℕ → ℕ
+barredFrom h p c = setOf 32 (λ s. ownOtherwise h (ballotBy s c p) || heldOtherwise h (ballotBy s c p))
 
--- with a ballot of the head's phase
-unfoldable pub withPresent : Look → Bool → Ballot → Look
-withPresent seen breaks b =
-    record {
-      plain = seen .plain && not breaks;
-      above = seen .above;
-      zeros = bitOr (seen .zeros) (cond (eqb (valueCode (b .value)) 0) (alone (b .sender)) 0);
-      ones = bitOr (seen .ones) (cond (eqb (valueCode (b .value)) 1) (alone (b .sender)) 0);
-      blanks = bitOr (seen .blanks) (cond (eqb (valueCode (b .value)) 2) (alone (b .sender)) 0);
-      undecided = bitOr (seen .undecided) (cond (eqb (statusCode (b .status)) 0) (alone (b .sender)) 0);
-      decided = bitOr (seen .decided) (cond (eqb (statusCode (b .status)) 1) (alone (b .sender)) 0);
-      elsewhere = seen .elsewhere;
-    }
+-- the ballot at index j is of phase p and of head s; it has that value and status too; it is of a lower phase
+abbrev pub isOf : List ℕ → ℕ → ℕ → ℕ → Bool
+isOf l p s j = eqb (ballotAt l j .phase) p && eqb (ballotAt l j .sender) s
 
--- with a ballot of another phase
-unfoldable pub withElsewhere : Look → Head → Bool → Ballot → Look
-withElsewhere seen h breaks b =
-    record {
-      plain = seen .plain && not (breaks || (member (b .sender) (seen .elsewhere) || (eqb (b .sender) (h .own) && ltb (h .phase) (b .phase))));
-      above = seen .above || ltb (h .phase) (b .phase);
-      zeros = seen .zeros;
-      ones = seen .ones;
-      blanks = seen .blanks;
-      undecided = seen .undecided;
-      decided = seen .decided;
-      elsewhere = bitOr (seen .elsewhere) (alone (b .sender));
-    }
+abbrev pub isSaid : List ℕ → ℕ → ℕ → ℕ → ℕ → Bool
+isSaid l p c s j = eqb (ballotAt l j .phase) p && (eqb (ballotAt l j .sender) s && eqb (code (ballotAt l j)) c)
 
--- with the ballot at index i
-unfoldable pub withBallot : Look → Head → List ℕ → ℕ → Look
-withBallot seen h l i =
-    cond (eqb (ballotAt l i .phase) (h .phase)) (withPresent seen (breaksRule (h .n) l i) (ballotAt l i)) (withElsewhere seen h (breaksRule (h .n) l i) (ballotAt l i))
+abbrev pub isLate : List ℕ → ℕ → ℕ → ℕ → Bool
+isLate l p s j = ltb (ballotAt l j .phase) p && eqb (ballotAt l j .sender) s
 
--- with the first k ballots
+-- the heads with such a ballot among the first k
+abbrev pub listedIn : List ℕ → ℕ → ℕ → ℕ
+listedIn l k p = setOf 32 (λ s. some k (isOf l p s))
+
+abbrev pub saidIn : List ℕ → ℕ → ℕ → ℕ → ℕ
+saidIn l k p c = setOf 32 (λ s. some k (isSaid l p c s))
+
+abbrev pub lateIn : List ℕ → ℕ → ℕ → ℕ
+lateIn l k p = setOf 32 (λ s. some k (isLate l p s))
+
+-- ---- one look
+
+-- the highest phase of the head and the first k ballots
+unfoldable pub highest : Head → List ℕ → ℕ → ℕ
+highest h l zero = h .phase
+highest h l (suc k) = cond (ltb (highest h l k) (ballotAt l k .phase)) (ballotAt l k .phase) (highest h l k)
+
+-- what the first k ballots show
 unfoldable pub lookAt : Head → List ℕ → ℕ → Look
-lookAt h l zero = begun h
-lookAt h l (suc k) = withBallot (lookAt h l k) h l k
+lookAt h l k =
+    record {
+      next = k;
+      phase = highest h l k;
+      listed = listedIn l k (highest h l k);
+      elsewhere = lateIn l k (highest h l k);
+      zeros = saidIn l k (highest h l k) 0;
+      «zeros_decided» = saidIn l k (highest h l k) 1;
+      ones = saidIn l k (highest h l k) 2;
+      «ones_decided» = saidIn l k (highest h l k) 3;
+      blanks = saidIn l k (highest h l k) 4;
+    }
 
--- the head with the sets that were seen
+-- a look at ballots of which none is refused
+abbrev pub Looks : Head → List ℕ → Look → Type 0
+Looks h l look =
+    (look .next ≤ ballots l) × ((j : ℕ) → j < look .next → refused h l j ≡ false) × (look ≡ lookAt h l (look .next))
+
+-- numbers of heads that fit into a set
+abbrev pub Fits : Head → Type 0
+Fits h = (h .n ≤ 32) × (h .own < 32)
+
+-- the head with those that were seen at its phase; nobody is decided with a blank
 abbrev pub shown : Head → Look → Head
-shown h seen =
+shown h look =
     record {
       n = h .n;
       own = h .own;
@@ -97,18 +145,7 @@ shown h seen =
       value = h .value;
       status = h .status;
       decision = h .decision;
-      zeros = seen .zeros;
-      ones = seen .ones;
-      blanks = seen .blanks;
+      zeros = setOf 32 (λ s. member s (h .zeros) || (member s (look .zeros) || member s (look .«zeros_decided»)));
+      ones = setOf 32 (λ s. member s (h .ones) || (member s (look .ones) || member s (look .«ones_decided»)));
+      blanks = setOf 32 (λ s. member s (h .blanks) || (member s (look .blanks) || member s 0));
     }
-
--- who sent the status that the head does not have
-abbrev pub otherStatus : Head → Look → ℕ
-otherStatus h seen = cond (eqb (statusCode (h .status)) 1) (seen .undecided) (seen .decided)
-
--- nobody is heard with two values or sent two statuses, the head itself neither
-unfoldable pub isPlain : Head → Look → Bool
-isPlain h seen =
-    (seen .plain && apart (seen .undecided) (seen .decided))
-    && ((apart (seen .zeros) (seen .ones) && (apart (seen .zeros) (seen .blanks) && apart (seen .ones) (seen .blanks)))
-    && (standsUnder (shown h seen) (h .own) (h .value) && not (member (h .own) (otherStatus h seen))))

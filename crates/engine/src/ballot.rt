@@ -1,7 +1,7 @@
 // One ballot: the ballot rules, and reading it from its bytes.
 ghost use mathlib.Core.Path.{_≡_};
 ghost use Prim.Native.Nat.{_<_};
-ghost use Rattle.rules.specs.Ballot.{classOf, allowed as allowedOf, obeys as obeysOf, breaksRule, phaseAt, readNumber, readBallot, numberRead, ballotRead};
+ghost use Rattle.rules.specs.Ballot.{classOf, allowed as allowedOf, obeys as obeysOf, breaksRule, readNumber, readBallot, numberRead, ballotRead};
 ghost use Rattle.rules.specs.Tick.{ballots as ballotsOf};
 use codes::BALLOT_BYTES;
 use codes::PHASE_HIGH;
@@ -37,21 +37,8 @@ pub(crate) fn breaks_rule(n: u32, ballots: &[u8], i: usize) -> bool
     ensures { λ r. ⌜ r ≡ breaksRule n (now (ballots .entry)) i ⌝ }
 {
     let at = i * BALLOT_BYTES;
-    breaks_of_class(
-        n,
-        class(phase_of(ballots[at + PHASE_HIGH], ballots[at + PHASE_LOW])),
-        ballots,
-        i,
-    )
-}
-
-// The same where the class of its phase is known.
-pub(crate) fn breaks_of_class(n: u32, class: Class, ballots: &[u8], i: usize) -> bool
-    requires { ⌜ (class ≡ classOf (phaseAt (now ballots) i)) × (i < ballotsOf (now ballots)) ⌝ }
-    ensures { λ r. ⌜ r ≡ breaksRule n (now (ballots .entry)) i ⌝ }
-{
-    let at = i * BALLOT_BYTES;
-    !((wide(ballots[at + SENDER]) < n) & allowed(class, ballots[at + VALUE], ballots[at + STATUS]))
+    let phase = phase_of(ballots[at + PHASE_HIGH], ballots[at + PHASE_LOW]);
+    !((wide(ballots[at + SENDER]) < n) & obeys(phase, ballots[at + VALUE], ballots[at + STATUS]))
 }
 
 // A function of its own: that a byte is below 256 is known of a parameter, not of a slice's element.

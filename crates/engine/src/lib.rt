@@ -7,6 +7,7 @@ mod head;
 mod heard;
 mod list;
 mod look;
+mod said;
 mod step;
 mod ticks;
 

@@ -1,17 +1,15 @@
 // Looking at a list of ballots: each is read from its bytes when it is looked at.
 ghost use mathlib.Core.Path.{_≡_};
-ghost use mathlib.Core.Bool.{cond, _&&_};
-ghost use Prim.Native.Nat.{_<_};
-ghost use lib.Dec.{ltb};
+ghost use mathlib.Core.Bool.{false, cond, _||_};
+ghost use Prim.Native.Nat.{ℕ, _<_, _≤_};
 ghost use Rattle.rules.specs.Below.{first};
 ghost use Rattle.rules.specs.Ballot.{breaksRule, ballotAt};
-ghost use Rattle.rules.specs.Tick.{ballots as ballotsOf, leader as leaderOf, copying as copyingOf, sameState, ownOtherwise, differ as differOf, heldOtherwise, contradicts as contradictsOf, gathered as gatheredOf};
+ghost use Rattle.rules.specs.Tick.{ballots as ballotsOf, leader as leaderOf, copying as copyingOf, sameState, ownOtherwise, differ as differOf, heldOtherwise};
 ghost use Rattle.rules.specs.Choice.{ahead as aheadOf};
 use crate::ballot::breaks_rule;
 use crate::head::own_ballot;
 use crate::head::stands_under;
 use crate::head::stated;
-use crate::look::hear;
 use codes::BALLOT_BYTES;
 use codes::ballot_at;
 use codes::status_code;
@@ -21,11 +19,12 @@ use rules::Head;
 
 // The first ballot that breaks a ballot rule; where there is none, the number of ballots. So in
 // each search below.
-pub(crate) fn first_breaking(n: u8, ballots: &[u8]) -> usize
+pub(crate) fn first_breaking(n: u8, ballots: &[u8], from: usize) -> usize
+    requires { ⌜ (from ≤ ballotsOf (now ballots)) × ((j : ℕ) → j < from → breaksRule n (now ballots) j ≡ false) ⌝ }
     ensures { λ r. ⌜ r ≡ first (ballotsOf (now (ballots .entry))) (breaksRule n (now (ballots .entry))) ⌝ }
 {
     let count = ballots.len() / BALLOT_BYTES;
-    let mut i: usize = 0;
+    let mut i = from;
     while i < count {
         if breaks_rule(n as u32, ballots, i) {
             return i;
@@ -36,11 +35,12 @@ pub(crate) fn first_breaking(n: u8, ballots: &[u8]) -> usize
 }
 
 // The first ballot under the head's own number that is ahead of the head or unlike it.
-pub(crate) fn first_own_otherwise(head: Head, ballots: &[u8]) -> usize
+pub(crate) fn first_own_otherwise(head: Head, ballots: &[u8], from: usize) -> usize
+    requires { ⌜ (from ≤ ballotsOf (now ballots)) × ((j : ℕ) → j < from → ownOtherwise head (ballotAt (now ballots) j) ≡ false) ⌝ }
     ensures { λ r. ⌜ r ≡ first (ballotsOf (now (ballots .entry))) (λ i. ownOtherwise head (ballotAt (now (ballots .entry)) i)) ⌝ }
 {
     let count = ballots.len() / BALLOT_BYTES;
-    let mut i: usize = 0;
+    let mut i = from;
     while i < count {
         if own_otherwise(head, ballot_at(ballots, i)) {
             return i;
@@ -50,46 +50,8 @@ pub(crate) fn first_own_otherwise(head: Head, ballots: &[u8]) -> usize
     i
 }
 
-// The first ballot that differs from an earlier one or from what is held.
-pub(crate) fn first_contradicting(head: Head, ballots: &[u8]) -> usize
-    ensures { λ r. ⌜ r ≡ first (ballotsOf (now (ballots .entry))) (contradictsOf head (now (ballots .entry))) ⌝ }
-{
-    let count = ballots.len() / BALLOT_BYTES;
-    let mut i: usize = 0;
-    while i < count {
-        if contradicts(head, ballots, i) {
-            return i;
-        }
-        i += 1;
-    }
-    i
-}
-
-// Steps 1 and 2.
-pub(crate) fn gathered(head: Head, ballots: &[u8]) -> Head
-    ensures { λ r. ⌜ r ≡ gatheredOf head (now (ballots .entry)) ⌝ }
-{
-    let at = leader(ballots);
-    if is_above(head.phase, ballots, at) {
-        return hear(copying(head, ballot_at(ballots, at)), ballots);
-    }
-    hear(head, ballots)
-}
-
-// Whether there is a ballot at the index, and of a higher phase.
-fn is_above(phase: u16, ballots: &[u8], at: usize) -> bool
-    ensures { λ r. ⌜ r ≡ ltb at (ballotsOf (now (ballots .entry))) && ltb phase (ballotAt (now (ballots .entry)) at .phase) ⌝ }
-{
-    if at < ballots.len() / BALLOT_BYTES {
-        let ballot = ballot_at(ballots, at);
-        phase < ballot.phase
-    } else {
-        false
-    }
-}
-
 // The ballot of the highest phase and, among several senders, of the lowest; 0 where there is none.
-fn leader(ballots: &[u8]) -> usize
+pub(crate) fn leader(ballots: &[u8]) -> usize
     ensures { λ r. ⌜ r ≡ leaderOf (now (ballots .entry)) ⌝ }
 {
     let count = ballots.len() / BALLOT_BYTES;
@@ -120,7 +82,7 @@ fn ahead(a: Ballot, b: Ballot) -> bool
     (b.phase < a.phase) | ((a.phase == b.phase) & (a.sender < b.sender))
 }
 
-fn copying(head: Head, ballot: Ballot) -> Head
+pub(crate) fn copying(head: Head, ballot: Ballot) -> Head
     ensures { λ r. ⌜ r ≡ copyingOf head ballot ⌝ }
 {
     let value = ballot.value;
@@ -142,16 +104,8 @@ fn own_otherwise(head: Head, ballot: Ballot) -> bool
             | ((ballot.phase == head.phase) & !same_state(ballot, own_ballot(head))))
 }
 
-// Whether the ballot at index i differs from an earlier one or from what is held.
-fn contradicts(head: Head, ballots: &[u8], i: usize) -> bool
-    requires { ⌜ i < ballotsOf (now ballots) ⌝ }
-    ensures { λ r. ⌜ r ≡ contradictsOf head (now (ballots .entry)) i ⌝ }
-{
-    (first_differing(ballots, i) < i) | held_otherwise(head, ballot_at(ballots, i))
-}
-
 // The first ballot before index i that differs from the one there.
-fn first_differing(ballots: &[u8], i: usize) -> usize
+pub(crate) fn first_differing(ballots: &[u8], i: usize) -> usize
     requires { ⌜ i < ballotsOf (now ballots) ⌝ }
     ensures { λ r. ⌜ r ≡ first i (λ j. differOf (ballotAt (now (ballots .entry)) j) (ballotAt (now (ballots .entry)) i)) ⌝ }
 {
@@ -174,6 +128,18 @@ fn differ(a: Ballot, b: Ballot) -> bool
     } else {
         false
     }
+}
+
+// Whether the ballot at index i is unlike the head under its own number, or unlike what is held.
+pub(crate) fn otherwise(head: Head, ballots: &[u8], i: usize) -> bool
+    requires { ⌜ i < ballotsOf (now ballots) ⌝ }
+    ensures { λ r. ⌜ r ≡ ownOtherwise head (ballotAt (now (ballots .entry)) i) || heldOtherwise head (ballotAt (now (ballots .entry)) i) ⌝ }
+{
+    let ballot = ballot_at(ballots, i);
+    if ballot.phase < head.phase {
+        return false;
+    }
+    own_otherwise(head, ballot) | held_otherwise(head, ballot)
 }
 
 fn held_otherwise(head: Head, ballot: Ballot) -> bool

@@ -1,175 +1,238 @@
-// One look at a list of ballots: whom the head hears in it, and whether it is plain. No ballot of a
-// plain list is refused by 6, 7 or 8. Of any other list a look says nothing, and the searches of
-// `list` decide, which are slower.
+// One look at a list of ballots, up to the first that is refused by 6, 7 or 8. So one sender says one
+// thing at a phase in all that was looked at, and sets of senders tell whether the next one differs.
 ghost use mathlib.Core.Path.{_≡_};
-ghost use mathlib.Core.Bool.{cond, _&&_};
-ghost use Prim.Native.Nat.{_<_};
+ghost use mathlib.Core.Bool.{true, cond, _&&_, _||_, not};
+ghost use Prim.Native.Nat.{ℕ, _<_, _≤_};
 ghost use lib.Dec.{eqb};
-ghost use Rattle.rules.specs.Ballot.{statusCode, classOf};
-ghost use Rattle.rules.specs.Heard.{setOf};
-ghost use Rattle.rules.specs.Tick.{ballots as ballotsOf, added};
-ghost use Rattle.engine.specs.Look.{begun as begunOf, withPresent, withElsewhere, withBallot, lookAt, shown as shownOf, isPlain};
-use crate::ballot::breaks_of_class;
+ghost use lib.ListN.{getD};
+ghost use Rattle.rules.specs.Below.{first};
+ghost use Rattle.rules.specs.Ballot.{ballotAt, breaksRule};
+ghost use Rattle.rules.specs.Heard.{member as memberOf};
+ghost use Rattle.rules.specs.Tick.{ballots as ballotsOf};
+ghost use Rattle.engine.specs.Look.{refused, lookAt, Looks, Fits};
 use crate::ballot::breaks_rule;
 use crate::ballot::class;
-use crate::head::stands_under;
-use crate::heard::apart;
+use crate::list::first_differing;
+use crate::list::otherwise;
+use crate::said::alone;
+use crate::said::barred_from;
+use crate::said::code_at;
+use crate::said::codes_of;
+use crate::said::has;
+use crate::said::phase_at;
+use crate::said::sender_at;
+use crate::said::stands;
+use crate::said::statuses_of;
 use codes::BALLOT_BYTES;
-use codes::ballot_at;
-use codes::member;
-use codes::status_code;
-use codes::value_code;
-use rules::Ballot;
-use rules::Class;
 use rules::Head;
-use rules::Status;
 
-// What is seen so far. `plain`: every ballot obeys the rules, none is from ahead under the head's
-// own number, and no sender has two at other phases than the head's. `above`: one is of a higher
-// phase. The sets: whom the head hears with 0, 1 and blank; who sent it undecided and decided
-// ballots of its phase; and who sent ballots of other phases.
+// What the first `next` ballots say, none of them refused. `phase`: the highest, the head's own
+// among them. Of the ballots of that phase: `listed`, who sent one, and, by value and status, who
+// said it. `elsewhere`: who sent one of a lower phase.
 pub struct Look {
-    pub plain: bool,
-    pub above: bool,
-    pub zeros: u32,
-    pub ones: u32,
-    pub blanks: u32,
-    pub undecided: u32,
-    pub decided: u32,
+    pub next: usize,
+    pub phase: u16,
+    pub listed: u32,
     pub elsewhere: u32,
+    pub zeros: u32,
+    pub zeros_decided: u32,
+    pub ones: u32,
+    pub ones_decided: u32,
+    pub blanks: u32,
 }
 
+// The look at the first refused ballot, or at the end of the list. In each turn it takes the ballots of
+// the highest phase that come next, then the late ones, then one from ahead.
 pub(crate) fn looked(head: Head, ballots: &[u8]) -> Look
-    ensures { λ r. ⌜ r ≡ lookAt head (now (ballots .entry)) (ballotsOf (now (ballots .entry))) ⌝ }
+    requires { ⌜ Fits head ⌝ }
+    ensures { λ r. ⌜ r ≡ lookAt head (now (ballots .entry)) (first (ballotsOf (now (ballots .entry))) (refused head (now (ballots .entry)))) ⌝ }
 {
     let count = ballots.len() / BALLOT_BYTES;
-    let class = class(head.phase);
-    let mut seen = begun(head);
-    let mut i: usize = 0;
+    let mut look = unlooked(head);
+    while look.next < count {
+        let from = look.next;
+        look = with_ahead(
+            with_late(with_present(look, head, ballots), head, ballots),
+            head,
+            ballots,
+        );
+        if look.next == from {
+            return look;
+        }
+    }
+    look
+}
+
+fn unlooked(head: Head) -> Look
+    ensures { λ r. ⌜ r ≡ record { next = 0; phase = head .phase; listed = 0; elsewhere = 0; zeros = 0; «zeros_decided» = 0; ones = 0; «ones_decided» = 0; blanks = 0 } ⌝ }
+{
+    Look {
+        next: 0,
+        phase: head.phase,
+        listed: 0,
+        elsewhere: 0,
+        zeros: 0,
+        zeros_decided: 0,
+        ones: 0,
+        ones_decided: 0,
+        blanks: 0,
+    }
+}
+
+// With the ballots of the look's phase that come next, up to one of another phase or one refused.
+fn with_present(look: Look, head: Head, ballots: &[u8]) -> Look
+    requires { ⌜ Fits head × Looks head (now ballots) look ⌝ }
+    ensures { λ r. ⌜ Looks head (now (ballots .entry)) r × (look .next ≤ r .next) × (r .next < ballotsOf (now (ballots .entry)) → ballotAt (now (ballots .entry)) (r .next) .phase ≡ r .phase → refused head (now (ballots .entry)) (r .next) ≡ true) ⌝ }
+{
+    let count = ballots.len() / BALLOT_BYTES;
+    let phase = look.phase;
+    let codes = codes_of(class(phase));
+    let statuses = statuses_of(class(phase));
+    let barred = barred_from(head, phase);
+    let mut listed = look.listed;
+    let mut said = [
+        look.zeros,
+        look.zeros_decided,
+        look.ones,
+        look.ones_decided,
+        look.blanks,
+    ];
+    let mut i = look.next;
     while i < count {
-        seen = with_ballot(seen, head, class, ballots, i);
+        if !((phase_at(ballots, i) == phase) & stands(head.n, codes, statuses, ballots, i)) {
+            return with_said(look, i, listed, said);
+        }
+        let sender = sender_at(ballots, i);
+        let code = code_at(ballots, i);
+        if is_refused(barred[code], listed, said[code], sender) {
+            return with_said(look, i, listed, said);
+        }
+        let one = alone(sender);
+        said[code] = said[code] | one;
+        listed = listed | one;
         i += 1;
     }
-    seen
+    with_said(look, i, listed, said)
 }
 
-// Step 1: the head has heard all ballots of its phase.
-pub(crate) fn hear(head: Head, ballots: &[u8]) -> Head
-    ensures { λ r. ⌜ r ≡ added head (now (ballots .entry)) ⌝ }
+// Whether a ballot of the look's phase is refused by 7 or 8: its sender may not say this, or has said
+// something else.
+fn is_refused(barred: u32, listed: u32, said: u32, sender: u8) -> bool
+    requires { ⌜ sender < 32 ⌝ }
+    ensures { λ r. ⌜ r ≡ (memberOf sender barred || memberOf sender listed) && not (memberOf sender said) ⌝ }
 {
-    shown(head, looked(head, ballots))
-}
-
-// Whether the whole list is plain: nobody is heard with two values or sent two statuses, the head
-// itself neither.
-pub(crate) fn is_plain(head: Head, seen: Look) -> bool
-    ensures { λ r. ⌜ r ≡ isPlain head seen ⌝ }
-{
-    let value = head.value;
-    let status = head.status;
-    let other = other_status(status, seen.undecided, seen.decided);
-    (seen.plain & apart(seen.undecided, seen.decided))
-        & ((apart(seen.zeros, seen.ones)
-            & (apart(seen.zeros, seen.blanks) & apart(seen.ones, seen.blanks)))
-            & (stands_under(shown(head, seen), head.own, value) & !member(other, head.own)))
-}
-
-fn other_status(status: Status, undecided: u32, decided: u32) -> u32
-    ensures { λ r. ⌜ r ≡ cond (eqb (statusCode status) 1) undecided decided ⌝ }
-{
-    if status_code(status) == 1 {
-        undecided
-    } else {
-        decided
+    if !has(barred | listed, sender) {
+        return false;
     }
+    !has(said, sender)
 }
 
-// The head with the sets that were seen.
-pub(crate) fn shown(head: Head, seen: Look) -> Head
-    ensures { λ r. ⌜ r ≡ shownOf head seen ⌝ }
-{
-    let mut shown = head;
-    shown.zeros = seen.zeros;
-    shown.ones = seen.ones;
-    shown.blanks = seen.blanks;
-    shown
-}
-
-fn begun(head: Head) -> Look
-    ensures { λ r. ⌜ r ≡ begunOf head ⌝ }
+fn with_said(look: Look, next: usize, listed: u32, said: [u32; 5]) -> Look
+    ensures { λ r. ⌜ r ≡ record { next = next; phase = look .phase; listed = listed; elsewhere = look .elsewhere; zeros = getD said 0 0; «zeros_decided» = getD said 1 0; ones = getD said 2 0; «ones_decided» = getD said 3 0; blanks = getD said 4 0 } ⌝ }
 {
     Look {
-        plain: true,
-        above: false,
-        zeros: head.zeros,
-        ones: head.ones,
-        blanks: head.blanks,
-        undecided: 0,
-        decided: 0,
-        elsewhere: 0,
+        next: next,
+        phase: look.phase,
+        listed: listed,
+        elsewhere: look.elsewhere,
+        zeros: said[0],
+        zeros_decided: said[1],
+        ones: said[2],
+        ones_decided: said[3],
+        blanks: said[4],
     }
 }
 
-// With the ballot at index i. The class of the head's phase is found once for the whole list.
-fn with_ballot(seen: Look, head: Head, class: Class, ballots: &[u8], i: usize) -> Look
-    requires { ⌜ (class ≡ classOf (head .phase)) × (i < ballotsOf (now ballots)) ⌝ }
-    ensures { λ r. ⌜ r ≡ withBallot seen head (now (ballots .entry)) i ⌝ }
+// With the ballots of lower phases that come next, up to one that is not or one refused.
+fn with_late(look: Look, head: Head, ballots: &[u8]) -> Look
+    requires { ⌜ Fits head × Looks head (now ballots) look ⌝ }
+    ensures { λ r. ⌜ Looks head (now (ballots .entry)) r × (look .next ≤ r .next) × (r .next < ballotsOf (now (ballots .entry)) → ballotAt (now (ballots .entry)) (r .next) .phase < r .phase → refused head (now (ballots .entry)) (r .next) ≡ true) ⌝ }
 {
-    let ballot = ballot_at(ballots, i);
-    if ballot.phase == head.phase {
-        return with_present(
-            seen,
-            breaks_of_class(head.n as u32, class, ballots, i),
-            ballot,
-        );
+    let count = ballots.len() / BALLOT_BYTES;
+    let phase = look.phase;
+    let mut elsewhere = look.elsewhere;
+    let mut i = look.next;
+    while i < count {
+        if phase <= phase_at(ballots, i) {
+            return with_elsewhere(look, i, elsewhere);
+        }
+        if is_refused_late(elsewhere, head, ballots, i) {
+            return with_elsewhere(look, i, elsewhere);
+        }
+        elsewhere = elsewhere | alone(sender_at(ballots, i));
+        i += 1;
     }
-    with_elsewhere(seen, head, breaks_rule(head.n as u32, ballots, i), ballot)
+    with_elsewhere(look, i, elsewhere)
 }
 
-// A ballot of the head's phase.
-fn with_present(seen: Look, breaks: bool, ballot: Ballot) -> Look
-    ensures { λ r. ⌜ r ≡ withPresent seen breaks ballot ⌝ }
+// Whether a ballot of a lower phase than the look's is refused. Only where its sender has sent another
+// one of a lower phase are the earlier ballots searched.
+fn is_refused_late(elsewhere: u32, head: Head, ballots: &[u8], i: usize) -> bool
+    requires { ⌜ Fits head × (i < ballotsOf (now ballots)) × ((j : ℕ) → j < i → ballotAt (now ballots) j .phase ≡ ballotAt (now ballots) i .phase → ballotAt (now ballots) j .sender < 32 → memberOf (ballotAt (now ballots) j .sender) elsewhere ≡ true) ⌝ }
+    ensures { λ r. ⌜ r ≡ refused head (now (ballots .entry)) i ⌝ }
 {
-    let value_enum = ballot.value;
-    let status_enum = ballot.status;
-    let value = value_code(value_enum);
-    let status = status_code(status_enum);
-    let sender = alone(ballot.sender);
+    if breaks_rule(head.n as u32, ballots, i) {
+        return true;
+    }
+    if !has(elsewhere, sender_at(ballots, i)) {
+        return otherwise(head, ballots, i);
+    }
+    (first_differing(ballots, i) < i) | otherwise(head, ballots, i)
+}
+
+fn with_elsewhere(look: Look, next: usize, elsewhere: u32) -> Look
+    ensures { λ r. ⌜ r ≡ record { next = next; phase = look .phase; listed = look .listed; elsewhere = elsewhere; zeros = look .zeros; «zeros_decided» = look .«zeros_decided»; ones = look .ones; «ones_decided» = look .«ones_decided»; blanks = look .blanks } ⌝ }
+{
     Look {
-        plain: seen.plain & !breaks,
-        above: seen.above,
-        zeros: seen.zeros | kept(value == 0, sender),
-        ones: seen.ones | kept(value == 1, sender),
-        blanks: seen.blanks | kept(value == 2, sender),
-        undecided: seen.undecided | kept(status == 0, sender),
-        decided: seen.decided | kept(status == 1, sender),
-        elsewhere: seen.elsewhere,
+        next: next,
+        phase: look.phase,
+        listed: look.listed,
+        elsewhere: elsewhere,
+        zeros: look.zeros,
+        zeros_decided: look.zeros_decided,
+        ones: look.ones,
+        ones_decided: look.ones_decided,
+        blanks: look.blanks,
     }
 }
 
-// A ballot of another phase.
-fn with_elsewhere(seen: Look, head: Head, breaks: bool, ballot: Ballot) -> Look
-    ensures { λ r. ⌜ r ≡ withElsewhere seen head breaks ballot ⌝ }
+// With the next ballot, if it is of a higher phase and not refused: what was listed is elsewhere.
+fn with_ahead(look: Look, head: Head, ballots: &[u8]) -> Look
+    requires { ⌜ Fits head × Looks head (now ballots) look ⌝ }
+    ensures { λ r. ⌜ Looks head (now (ballots .entry)) r × (look .next ≤ r .next) × (r .next < ballotsOf (now (ballots .entry)) → r .next ≡ look .next → r .phase < ballotAt (now (ballots .entry)) (r .next) .phase → refused head (now (ballots .entry)) (r .next) ≡ true) ⌝ }
 {
-    let higher = head.phase < ballot.phase;
-    let again = member(seen.elsewhere, ballot.sender);
+    let i = look.next;
+    if ballots.len() / BALLOT_BYTES <= i {
+        return look;
+    }
+    if phase_at(ballots, i) <= look.phase {
+        return look;
+    }
+    if is_refused_ahead(head, ballots, i) {
+        return look;
+    }
+    let sender = alone(sender_at(ballots, i));
+    let code = code_at(ballots, i);
     Look {
-        plain: seen.plain & !(breaks | (again | ((ballot.sender == head.own) & higher))),
-        above: seen.above | higher,
-        zeros: seen.zeros,
-        ones: seen.ones,
-        blanks: seen.blanks,
-        undecided: seen.undecided,
-        decided: seen.decided,
-        elsewhere: seen.elsewhere | alone(ballot.sender),
+        next: i + 1,
+        phase: phase_at(ballots, i),
+        listed: sender,
+        elsewhere: look.elsewhere | look.listed,
+        zeros: kept(code == 0, sender),
+        zeros_decided: kept(code == 1, sender),
+        ones: kept(code == 2, sender),
+        ones_decided: kept(code == 3, sender),
+        blanks: kept(code == 4, sender),
     }
 }
 
-// The set of one head, or of none where the number is too high.
-fn alone(sender: u8) -> u32
-    ensures { λ r. ⌜ r ≡ setOf 32 (λ s. eqb sender s) ⌝ }
+// Whether a ballot of a higher phase than the look's is refused: by 6, or under the head's own number
+// by 7.
+fn is_refused_ahead(head: Head, ballots: &[u8], i: usize) -> bool
+    requires { ⌜ i < ballotsOf (now ballots) ⌝ }
+    ensures { λ r. ⌜ r ≡ breaksRule (head .n) (now (ballots .entry)) i || eqb (ballotAt (now (ballots .entry)) i .sender) (head .own) ⌝ }
 {
-    if sender < 32 { 1u32 << sender } else { 0 }
+    breaks_rule(head.n as u32, ballots, i) | (sender_at(ballots, i) == head.own)
 }
 
 // The set where the answer is yes, else nobody.

@@ -1,25 +1,28 @@
 // One tick: the refusals in number order, and the four steps.
 ghost use mathlib.Core.Path.{_≡_};
 ghost use mathlib.Core.Bool.{true, cond};
+ghost use Prim.Native.Nat.{_<_};
+ghost use Rattle.rules.specs.Below.{first};
 ghost use Rattle.rules.specs.Head.{sound as soundOf};
-ghost use Rattle.rules.specs.Tick.{tickOf, notList, bothHeard, decidesOtherwise, settled as settledOf};
-ghost use Rattle.engine.specs.Look.{listened as listenedOf, ended as endedOf};
+ghost use Rattle.rules.specs.Tick.{tickOf, notList, bothHeard, decidesOtherwise, settled as settledOf, ballots as ballotsOf, gathered as gatheredOf};
+ghost use Rattle.engine.specs.Look.{listened as listenedOf, ended as endedOf, refused as refusedOf, shown as shownOf, Looks};
 use crate::head::decision_is_value;
 use crate::head::is_decided;
 use crate::head::is_written;
 use crate::head::sound;
+use crate::list::copying;
 use crate::list::first_breaking;
-use crate::list::first_contradicting;
 use crate::list::first_own_otherwise;
-use crate::list::gathered;
-use crate::look::is_plain;
+use crate::list::leader;
+use crate::look::Look;
 use crate::look::looked;
-use crate::look::shown;
+use crate::said::either;
 use crate::step::quorum;
 use crate::step::risen;
 use crate::step::settled;
 use codes::BALLOT_BYTES;
 use codes::LIST_BYTES_MOST;
+use codes::ballot_at;
 use codes::value_code;
 use rules::Head;
 use rules::Ticked;
@@ -78,35 +81,48 @@ fn listened(head: Head, ballots: &[u8]) -> Ticked
     requires { ⌜ soundOf head ≡ true ⌝ }
     ensures { λ r. ⌜ r ≡ listenedOf head (now (ballots .entry)) ⌝ }
 {
-    // Nothing to look at. Step 3 is taken all the same, if enough heads were heard before.
-    if ballots.len() == 0 {
-        return answer(0, head);
+    let look = looked(head, ballots);
+    if look.next < ballots.len() / BALLOT_BYTES {
+        return refused(head, ballots, look.next);
     }
-    let seen = looked(head, ballots);
-    if !is_plain(head, seen) {
-        return searched(head, ballots);
-    }
-    if seen.above {
-        return answer(0, gathered(head, ballots));
-    }
-    answer(0, shown(head, seen))
+    answer(0, gathered(head, look, ballots))
 }
 
-// The same for any list, with a search for each number.
-fn searched(head: Head, ballots: &[u8]) -> Ticked
+// Of a list whose first refused ballot is at that index: 6 or 7 where one there or later gives it, else 8.
+fn refused(head: Head, ballots: &[u8], at: usize) -> Ticked
+    requires { ⌜ (at < ballotsOf (now ballots)) × (at ≡ first (ballotsOf (now ballots)) (refusedOf head (now ballots))) ⌝ }
     ensures { λ r. ⌜ r ≡ listenedOf head (now (ballots .entry)) ⌝ }
 {
     let count = ballots.len() / BALLOT_BYTES;
-    if first_breaking(head.n, ballots) < count {
+    if first_breaking(head.n, ballots, at) < count {
         return answer(6, head);
     }
-    if first_own_otherwise(head, ballots) < count {
+    if first_own_otherwise(head, ballots, at) < count {
         return answer(7, head);
     }
-    if first_contradicting(head, ballots) < count {
-        return answer(8, head);
+    answer(8, head)
+}
+
+// Steps 1 and 2, where no ballot is refused, by the look at all of them.
+fn gathered(head: Head, look: Look, ballots: &[u8]) -> Head
+    requires { ⌜ Looks head (now ballots) look × (look .next ≡ ballotsOf (now ballots)) ⌝ }
+    ensures { λ r. ⌜ r ≡ gatheredOf head (now (ballots .entry)) ⌝ }
+{
+    if head.phase < look.phase {
+        return shown(copying(head, ballot_at(ballots, leader(ballots))), look);
     }
-    answer(0, gathered(head, ballots))
+    shown(head, look)
+}
+
+// The head with those that were seen at its phase.
+fn shown(head: Head, look: Look) -> Head
+    ensures { λ r. ⌜ r ≡ shownOf head look ⌝ }
+{
+    let mut shown = head;
+    shown.zeros = either(head.zeros, look.zeros, look.zeros_decided);
+    shown.ones = either(head.ones, look.ones, look.ones_decided);
+    shown.blanks = either(head.blanks, look.blanks, 0);
+    shown
 }
 
 fn answer(number: u8, head: Head) -> Ticked

@@ -1,5 +1,5 @@
-use mathlib.Core.Path.{ap, _∙_}
-use Rattle.rules.specs.Ballot.{classOf}
+use Rattle.rules.specs.Ballot.{breaksRule}
+use native.Mathlib.Nat.{add-zero}
 use borrow.Author.Needs.{needs}
 use Rattle.engine.proofs.ballot.breaks_rule.Statement.{statement}
 use Rattle.engine.proofs.ballot.breaks_rule.Tie as tie
@@ -22,14 +22,33 @@ shared-slice-read-phase-of-2 c = search needs
 phase-of-requires : tie.Need-phase-of-requires
 phase-of-requires c κs = search needs
 
-class-requires : tie.Need-class-requires
-class-requires c κs = search needs
+add-wide : tie.Need-add-wide
+add-wide c = search needs
 
-breaks-of-class-requires : tie.Need-breaks-of-class-requires
-breaks-of-class-requires c κs = (c .class .ensures ∙ ap classOf (c .before .phase-of .ensures), c .before .before .before .before .before .pre)
+shared-slice-read-wide : tie.Need-shared-slice-read-wide
+shared-slice-read-wide c = search needs
+
+wide-requires : tie.Need-wide-requires
+wide-requires c κs = search needs
+
+add-obeys : tie.Need-add-obeys
+add-obeys c = search needs
+
+shared-slice-read-obeys : tie.Need-shared-slice-read-obeys
+shared-slice-read-obeys c = search needs
+
+add-obeys-2 : tie.Need-add-obeys-2
+add-obeys-2 c = search needs
+
+shared-slice-read-obeys-2 : tie.Need-shared-slice-read-obeys-2
+shared-slice-read-obeys-2 c = search needs
+
+obeys-requires : tie.Need-obeys-requires
+obeys-requires c κs = search needs
 
 returns : tie.Need-returns
-returns c = search needs
+unfolding breaksRule
+returns c = simp (add-zero, c .obeys .ensures, c .before .before .before .wide .ensures, c .before .before .before .before .before .phase-of .ensures)
 
 pub breaks-rule-spec : {M : Type 1} → statement M
 breaks-rule-spec =
@@ -41,6 +60,12 @@ breaks-rule-spec =
     add-phase-of-2
     shared-slice-read-phase-of-2
     phase-of-requires
-    class-requires
-    breaks-of-class-requires
+    add-wide
+    shared-slice-read-wide
+    wide-requires
+    add-obeys
+    shared-slice-read-obeys
+    add-obeys-2
+    shared-slice-read-obeys-2
+    obeys-requires
     returns)

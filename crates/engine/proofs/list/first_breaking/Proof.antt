@@ -1,19 +1,19 @@
 use Prim.Native.Nat.{_-_, _≤_}
 use mathlib.Core.Path.{sym, _∙_}
-use Rattle.rules.proofs.Counting.Below.{NoneBefore, none-more, search-starts, search-finds, search-ends}
+use Rattle.rules.proofs.Counting.Below.{NoneBefore, none-more, search-finds, search-ends}
 use Rattle.rules.specs.Ballot.{breaksRule}
 use native.Mathlib.Omega.{arith}
 use Rattle.engine.proofs.list.first_breaking.Statement.{statement}
 use Rattle.engine.proofs.list.first_breaking.Tie as tie
 
 abbrev Inv-loop : tie.InvT-loop
-Inv-loop n ballots count i₀ i = (i ≤ count) × NoneBefore i (breaksRule n ballots)
+Inv-loop n ballots from count i₀ i = (i ≤ count) × NoneBefore i (breaksRule n ballots)
 
 abbrev μ-loop : tie.MeasureT-loop
-μ-loop n ballots count i₀ i = count - i
+μ-loop n ballots from count i₀ i = count - i
 
 loop-holds : tie.Need-loop-holds Inv-loop μ-loop
-loop-holds c = (omega arith, search-starts _)
+loop-holds c = c .before .pre
 
 breaks-rule-requires : tie.Need-breaks-rule-requires Inv-loop μ-loop
 breaks-rule-requires c κs = omega arith

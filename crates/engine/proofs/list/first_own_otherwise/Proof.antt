@@ -1,6 +1,6 @@
 use Prim.Native.Nat.{_-_, _≤_}
 use mathlib.Core.Path.{sym, ap, _∙_}
-use Rattle.rules.proofs.Counting.Below.{NoneBefore, none-more, search-starts, search-finds, search-ends}
+use Rattle.rules.proofs.Counting.Below.{NoneBefore, none-more, search-finds, search-ends}
 use Rattle.rules.specs.Ballot.{ballotAt}
 use Rattle.rules.specs.Tick.{ownOtherwise}
 use native.Mathlib.Omega.{arith}
@@ -9,13 +9,13 @@ use Rattle.engine.proofs.list.first_own_otherwise.Statement.{statement}
 use Rattle.engine.proofs.list.first_own_otherwise.Tie as tie
 
 abbrev Inv-loop : tie.InvT-loop
-Inv-loop head ballots count i₀ i = (i ≤ count) × NoneBefore i (λ j. ownOtherwise head (ballotAt ballots j))
+Inv-loop head ballots from count i₀ i = (i ≤ count) × NoneBefore i (λ j. ownOtherwise head (ballotAt ballots j))
 
 abbrev μ-loop : tie.MeasureT-loop
-μ-loop head ballots count i₀ i = count - i
+μ-loop head ballots from count i₀ i = count - i
 
 loop-holds : tie.Need-loop-holds Inv-loop μ-loop
-loop-holds c = (omega arith, search-starts _)
+loop-holds c = c .before .pre
 
 ballot-at-requires : tie.Need-ballot-at-requires Inv-loop μ-loop
 ballot-at-requires c κs = tt

@@ -1,43 +1,45 @@
+use Prim.Native.Nat.{_-_}
 use native.Mathlib.Omega.{arith}
-use Rattle.engine.proofs.Growing.{look-starts, look-goes-on}
-use Rattle.engine.specs.Look.{begun, withBallot, lookAt}
-use Rattle.engine.specs.declared.look.Look.{Look}
-use Rattle.rules.specs.declared.Head.{Head}
-use Rattle.rules.specs.Ballot.{classOf}
-use mathlib.Core.Path.{_≡_, refl, sym, ap, _∙_}
-use Prim.Native.Nat.{ℕ, _-_, _≤_}
+use Rattle.engine.specs.Look.{Looks}
+use Rattle.engine.proofs.Looking.{looks-start, turn-ends, list-ends}
 use Rattle.engine.proofs.look.looked.Statement.{statement}
 use Rattle.engine.proofs.look.looked.Tie as tie
 
 abbrev Inv-loop : tie.InvT-loop
-Inv-loop head ballots count class seen₀ i₀ seen i = (i ≤ count) × (seen ≡ lookAt head ballots i)
+Inv-loop head ballots count look₀ look = Looks head ballots look
 
 abbrev μ-loop : tie.MeasureT-loop
-μ-loop head ballots count class seen₀ i₀ seen i = count - i
+μ-loop head ballots count look₀ look = count - look .next
 
-class-requires : tie.Need-class-requires Inv-loop μ-loop
-class-requires c κs = tt
-
-begun-requires : tie.Need-begun-requires Inv-loop μ-loop
-begun-requires c κs = tt
+unlooked-requires : tie.Need-unlooked-requires Inv-loop μ-loop
+unlooked-requires c κs = tt
 
 loop-holds : tie.Need-loop-holds Inv-loop μ-loop
-loop-holds c = (omega arith, c .begun .ensures ∙ look-starts _ _)
+loop-holds c = looks-start _ _ _ (c .unlooked .ensures)
 
-with-ballot-requires : tie.Need-with-ballot-requires Inv-loop μ-loop
-with-ballot-requires c κs = (c .before .before .before .class .ensures, omega arith)
+with-present-requires : tie.Need-with-present-requires Inv-loop μ-loop
+with-present-requires c κs = (c .before .before .before .before .before .pre, c .before .before .loop .inv)
 
-add-i : tie.Need-add-i Inv-loop μ-loop
-add-i c = omega arith
+with-late-requires : tie.Need-with-late-requires Inv-loop μ-loop
+with-late-requires c κs = (c .before .before .before .before .before .before .pre, c .with-present .ensures .0)
 
-loop-less : tie.Need-loop-less Inv-loop μ-loop
-loop-less c = omega arith
-
-loop-again : tie.Need-loop-again Inv-loop μ-loop
-loop-again c = (omega arith, c .with-ballot .ensures ∙ look-goes-on _ _ _ _ (c .before .before .loop .inv .1))
+with-ahead-requires : tie.Need-with-ahead-requires Inv-loop μ-loop
+with-ahead-requires c κs = (c .before .before .before .before .before .before .before .pre, c .with-late .ensures .0)
 
 returns : tie.Need-returns Inv-loop μ-loop
-returns c = c .before .loop .inv .1 ∙ ap (lookAt (c .before .before .before .before .before .args .head) (c .before .before .before .before .before .args .ballots .now)) (omega arith)
+returns c =
+    turn-ends _ _ _ _ _ _ (c .before .before .before .before .before .if1 .taken) (c .before .before .before .before .with-present .ensures .0) (c .before .before .before .with-late .ensures .0) (c .before .before .with-ahead .ensures .0)
+    (c .before .before .before .before .with-present .ensures .1) (c .before .before .before .with-late .ensures .1) (c .before .before .with-ahead .ensures .1) (c .if2 .taken)
+    (c .before .before .before .before .with-present .ensures .2) (c .before .before .before .with-late .ensures .2) (c .before .before .with-ahead .ensures .2)
+
+loop-less : tie.Need-loop-less Inv-loop μ-loop
+loop-less c = omega (arith, c .before .before .before .before .before .if1 .taken, c .before .before .before .before .with-present .ensures .1, c .before .before .before .with-late .ensures .1, c .before .before .with-ahead .ensures .1, c .before .before .with-ahead .ensures .0 .0, c .if2 .left)
+
+loop-again : tie.Need-loop-again Inv-loop μ-loop
+loop-again c = c .before .before .with-ahead .ensures .0
+
+returns-2 : tie.Need-returns-2 Inv-loop μ-loop
+returns-2 c = list-ends _ _ _ (c .before .before .loop .inv) (c .if1 .left)
 
 pub looked-spec : {M : Type 1} → statement M
 looked-spec =
@@ -45,11 +47,12 @@ looked-spec =
     (tie.spec
     Inv-loop
     μ-loop
-    class-requires
-    begun-requires
+    unlooked-requires
     loop-holds
-    with-ballot-requires
-    add-i
+    with-present-requires
+    with-late-requires
+    with-ahead-requires
+    returns
     loop-less
     loop-again
-    returns)
+    returns-2)

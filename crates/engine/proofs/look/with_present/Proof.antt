@@ -1,46 +1,195 @@
-use Rattle.engine.specs.Look.{withPresent}
-use borrow.Author.Needs.{needs}
+use Prim.Native.Nat.{_-_, _≤_, _<_}
+use mathlib.Core.Path.{_≡_, refl, sym, ap, _∙_}
+use mathlib.Core.Bool.{true}
+use native.Mathlib.Omega.{arith}
+use lib.ListN.{length, length-set}
+use Rattle.rules.specs.Ballot.{ballotAt}
+use Rattle.rules.specs.Tick.{ballots}
+use Rattle.rules.proofs.Counting.Below.{NoneBefore, none-more}
+use Rattle.engine.specs.Look.{refused, alone, codesOf, statusesOf}
+use Rattle.engine.proofs.Refusing.{low-sender, low-code, code-read, test-passed, test-failed, refused-present}
+use Rattle.engine.proofs.Looking.{Sees, sees, phase-least, sees-present, look-ends}
 use Rattle.engine.proofs.look.with_present.Statement.{statement}
 use Rattle.engine.proofs.look.with_present.Tie as tie
 
-value-code-requires : tie.Need-value-code-requires
-value-code-requires c κs = search needs
+abbrev Inv-loop : tie.InvT-loop
+Inv-loop look head ballots count phase codes statuses barred listed₀ said₀ i₀ listed said i = (look .next ≤ i) × (i ≤ count) × (length said ≡ 5) × NoneBefore i (refused head ballots) × Sees head ballots i (look .phase) listed (look .elsewhere) said
 
-status-code-requires : tie.Need-status-code-requires
-status-code-requires c κs = search needs
+abbrev μ-loop : tie.MeasureT-loop
+μ-loop look head ballots count phase codes statuses barred listed₀ said₀ i₀ listed said i = count - i
 
-alone-requires : tie.Need-alone-requires
-alone-requires c κs = search needs
+class-requires : tie.Need-class-requires Inv-loop μ-loop
+class-requires c κs = tt
 
-kept-requires : tie.Need-kept-requires
-kept-requires c κs = search needs
+codes-of-requires : tie.Need-codes-of-requires Inv-loop μ-loop
+codes-of-requires c κs = tt
 
-kept-requires-2 : tie.Need-kept-requires-2
-kept-requires-2 c κs = search needs
+class-requires-2 : tie.Need-class-requires-2 Inv-loop μ-loop
+class-requires-2 c κs = tt
 
-kept-requires-3 : tie.Need-kept-requires-3
-kept-requires-3 c κs = search needs
+statuses-of-requires : tie.Need-statuses-of-requires Inv-loop μ-loop
+statuses-of-requires c κs = tt
 
-kept-requires-4 : tie.Need-kept-requires-4
-kept-requires-4 c κs = search needs
+barred-from-requires : tie.Need-barred-from-requires Inv-loop μ-loop
+barred-from-requires c κs = (c .before .before .before .before .before .pre .0 .1, phase-least _ _ _ _ (c .before .before .before .before .before .pre .1 .2))
 
-kept-requires-5 : tie.Need-kept-requires-5
-kept-requires-5 c κs = search needs
+loop-holds : tie.Need-loop-holds Inv-loop μ-loop
+loop-holds c = let pre = c .before .before .before .before .before .before .pre in (omega arith, pre .1 .0, refl, pre .1 .1, sees _ _ _ _ (pre .1 .2))
 
-returns : tie.Need-returns
-unfolding withPresent
-returns c = simp (c .before .kept5 .ensures, c .before .before .before .kept4 .ensures, c .before .before .before .before .before .kept3 .ensures, c .before .before .before .before .before .before .before .kept2 .ensures, c .before .before .before .before .before .before .before .before .before .kept .ensures, c .before .before .before .before .before .before .before .before .before .before .before .alone .ensures, c .before .before .before .before .before .before .before .before .before .before .before .before .status-code .ensures, c .before .before .before .before .before .before .before .before .before .before .before .before .before .value-code .ensures)
+phase-at-requires : tie.Need-phase-at-requires Inv-loop μ-loop
+phase-at-requires c κs = omega arith
+
+stands-requires : tie.Need-stands-requires Inv-loop μ-loop
+stands-requires c κs = omega arith
+
+with-said-requires : tie.Need-with-said-requires Inv-loop μ-loop
+with-said-requires c κs = tt
+
+returns : tie.Need-returns Inv-loop μ-loop
+returns c =
+    look-ends (c .before .before .before .before .before .before .before .before .before .before .before .before .args .head) (c .before .before .before .before .before .before .before .before .before .before .before .before .args .ballots .now)
+    (λ x. x .next < ballots (c .before .before .before .before .before .before .before .before .before .before .before .before .args .ballots .now) → ballotAt (c .before .before .before .before .before .before .before .before .before .before .before .before .args .ballots .now) (x .next) .phase ≡ x .phase → refused (c .before .before .before .before .before .before .before .before .before .before .before .before .args .head) (c .before .before .before .before .before .before .before .before .before .before .before .before .args .ballots .now) (x .next) ≡ true)
+    _ _ _ _ _ (c .before .before .before .before .before .loop .said) _ (c .with-said .ensures)
+    (c .before .before .before .before .before .loop .inv .0) (c .before .before .before .before .before .loop .inv .1) (c .before .before .before .before .before .loop .inv .3) (c .before .before .before .before .before .loop .inv .4)
+    (λ b q. test-failed (c .before .before .before .before .before .before .before .before .before .before .before .before .args .head) (c .before .before .before .before .before .before .before .before .before .before .before .before .args .ballots .now) (c .before .before .before .before .before .loop .i) _ _ _ _ _ (c .before .before .before .phase-at .ensures) (c .before .before .before .before .before .before .before .before .before .codes-of .ensures ∙ ap codesOf (c .before .before .before .before .before .before .before .before .before .before .class .ensures)) (c .before .before .before .before .before .before .before .statuses-of .ensures ∙ ap statusesOf (c .before .before .before .before .before .before .before .before .class2 .ensures)) (c .before .before .stands .ensures) (c .before .if1 .taken) q)
+
+sender-at-requires : tie.Need-sender-at-requires Inv-loop μ-loop
+sender-at-requires c κs = omega arith
+
+code-at-requires : tie.Need-code-at-requires Inv-loop μ-loop
+code-at-requires c κs = omega arith
+
+mul-is-refused : tie.Need-mul-is-refused Inv-loop μ-loop
+mul-is-refused c =
+    let test = test-passed (c .before .before .before .before .before .before .before .before .before .before .before .before .before .args .head) (c .before .before .before .before .before .before .before .before .before .before .before .before .before .args .ballots .now) (c .before .before .before .before .before .before .loop .i) _ _ _ _ _ (c .before .before .before .before .phase-at .ensures) (c .before .before .before .before .before .before .before .before .before .before .codes-of .ensures ∙ ap codesOf (c .before .before .before .before .before .before .before .before .before .before .before .class .ensures)) (c .before .before .before .before .before .before .before .before .statuses-of .ensures ∙ ap statusesOf (c .before .before .before .before .before .before .before .before .before .class2 .ensures)) (c .before .before .before .stands .ensures) (c .before .before .if1 .left) in
+    let low : c .code-at .result < 5 = omega (arith, c .code-at .ensures, low-code (c .before .before .before .before .before .before .before .before .before .before .before .before .before .args .head .n) (c .before .before .before .before .before .before .before .before .before .before .before .before .before .args .ballots .now) (c .before .before .before .before .before .before .loop .i) (test .1)) in
+    omega arith
+
+array-read-is-refused : tie.Need-array-read-is-refused Inv-loop μ-loop
+array-read-is-refused c =
+    let test = test-passed (c .before .before .before .before .before .before .before .before .before .before .before .before .before .args .head) (c .before .before .before .before .before .before .before .before .before .before .before .before .before .args .ballots .now) (c .before .before .before .before .before .before .loop .i) _ _ _ _ _ (c .before .before .before .before .phase-at .ensures) (c .before .before .before .before .before .before .before .before .before .before .codes-of .ensures ∙ ap codesOf (c .before .before .before .before .before .before .before .before .before .before .before .class .ensures)) (c .before .before .before .before .before .before .before .before .statuses-of .ensures ∙ ap statusesOf (c .before .before .before .before .before .before .before .before .before .class2 .ensures)) (c .before .before .before .stands .ensures) (c .before .before .if1 .left) in
+    let low : c .code-at .result < 5 = omega (arith, c .code-at .ensures, low-code (c .before .before .before .before .before .before .before .before .before .before .before .before .before .args .head .n) (c .before .before .before .before .before .before .before .before .before .before .before .before .before .args .ballots .now) (c .before .before .before .before .before .before .loop .i) (test .1)) in
+    omega (arith, c .before .before .before .before .before .before .before .barred-from .ensures .0)
+
+mul-is-refused-2 : tie.Need-mul-is-refused-2 Inv-loop μ-loop
+mul-is-refused-2 c =
+    let test = test-passed (c .before .before .before .before .before .before .before .before .before .before .before .before .before .args .head) (c .before .before .before .before .before .before .before .before .before .before .before .before .before .args .ballots .now) (c .before .before .before .before .before .before .loop .i) _ _ _ _ _ (c .before .before .before .before .phase-at .ensures) (c .before .before .before .before .before .before .before .before .before .before .codes-of .ensures ∙ ap codesOf (c .before .before .before .before .before .before .before .before .before .before .before .class .ensures)) (c .before .before .before .before .before .before .before .before .statuses-of .ensures ∙ ap statusesOf (c .before .before .before .before .before .before .before .before .before .class2 .ensures)) (c .before .before .before .stands .ensures) (c .before .before .if1 .left) in
+    let low : c .code-at .result < 5 = omega (arith, c .code-at .ensures, low-code (c .before .before .before .before .before .before .before .before .before .before .before .before .before .args .head .n) (c .before .before .before .before .before .before .before .before .before .before .before .before .before .args .ballots .now) (c .before .before .before .before .before .before .loop .i) (test .1)) in
+    omega arith
+
+array-read-is-refused-2 : tie.Need-array-read-is-refused-2 Inv-loop μ-loop
+array-read-is-refused-2 c =
+    let test = test-passed (c .before .before .before .before .before .before .before .before .before .before .before .before .before .args .head) (c .before .before .before .before .before .before .before .before .before .before .before .before .before .args .ballots .now) (c .before .before .before .before .before .before .loop .i) _ _ _ _ _ (c .before .before .before .before .phase-at .ensures) (c .before .before .before .before .before .before .before .before .before .before .codes-of .ensures ∙ ap codesOf (c .before .before .before .before .before .before .before .before .before .before .before .class .ensures)) (c .before .before .before .before .before .before .before .before .statuses-of .ensures ∙ ap statusesOf (c .before .before .before .before .before .before .before .before .before .class2 .ensures)) (c .before .before .before .stands .ensures) (c .before .before .if1 .left) in
+    let low : c .code-at .result < 5 = omega (arith, c .code-at .ensures, low-code (c .before .before .before .before .before .before .before .before .before .before .before .before .before .args .head .n) (c .before .before .before .before .before .before .before .before .before .before .before .before .before .args .ballots .now) (c .before .before .before .before .before .before .loop .i) (test .1)) in
+    omega (arith, c .before .before .before .before .before .before .loop .inv .2)
+
+is-refused-requires : tie.Need-is-refused-requires Inv-loop μ-loop
+is-refused-requires c κs =
+    let test = test-passed (c .before .before .before .before .before .before .before .before .before .before .before .before .before .args .head) (c .before .before .before .before .before .before .before .before .before .before .before .before .before .args .ballots .now) (c .before .before .before .before .before .before .loop .i) _ _ _ _ _ (c .before .before .before .before .phase-at .ensures) (c .before .before .before .before .before .before .before .before .before .before .codes-of .ensures ∙ ap codesOf (c .before .before .before .before .before .before .before .before .before .before .before .class .ensures)) (c .before .before .before .before .before .before .before .before .statuses-of .ensures ∙ ap statusesOf (c .before .before .before .before .before .before .before .before .before .class2 .ensures)) (c .before .before .before .stands .ensures) (c .before .before .if1 .left) in
+    omega (arith, c .before .sender-at .ensures, low-sender (c .before .before .before .before .before .before .before .before .before .before .before .before .before .args .head .n) (c .before .before .before .before .before .before .before .before .before .before .before .before .before .args .ballots .now) (c .before .before .before .before .before .before .loop .i) (test .1), c .before .before .before .before .before .before .before .before .before .before .before .before .before .pre .0 .0)
+
+with-said-requires-2 : tie.Need-with-said-requires-2 Inv-loop μ-loop
+with-said-requires-2 c κs = tt
+
+returns-2 : tie.Need-returns-2 Inv-loop μ-loop
+returns-2 c =
+    let test = test-passed (c .before .before .before .before .before .before .before .before .before .before .before .before .before .before .before .before .args .head) (c .before .before .before .before .before .before .before .before .before .before .before .before .before .before .before .before .args .ballots .now) (c .before .before .before .before .before .before .before .before .before .loop .i) _ _ _ _ _ (c .before .before .before .before .before .before .before .phase-at .ensures) (c .before .before .before .before .before .before .before .before .before .before .before .before .before .codes-of .ensures ∙ ap codesOf (c .before .before .before .before .before .before .before .before .before .before .before .before .before .before .class .ensures)) (c .before .before .before .before .before .before .before .before .before .before .before .statuses-of .ensures ∙ ap statusesOf (c .before .before .before .before .before .before .before .before .before .before .before .before .class2 .ensures)) (c .before .before .before .before .before .before .stands .ensures) (c .before .before .before .before .before .if1 .left) in
+    let low : c .before .before .before .code-at .result < 5 = omega (arith, c .before .before .before .code-at .ensures, low-code (c .before .before .before .before .before .before .before .before .before .before .before .before .before .before .before .before .args .head .n) (c .before .before .before .before .before .before .before .before .before .before .before .before .before .before .before .before .args .ballots .now) (c .before .before .before .before .before .before .before .before .before .loop .i) (test .1)) in
+    look-ends (c .before .before .before .before .before .before .before .before .before .before .before .before .before .before .before .before .args .head) (c .before .before .before .before .before .before .before .before .before .before .before .before .before .before .before .before .args .ballots .now)
+    (λ x. x .next < ballots (c .before .before .before .before .before .before .before .before .before .before .before .before .before .before .before .before .args .ballots .now) → ballotAt (c .before .before .before .before .before .before .before .before .before .before .before .before .before .before .before .before .args .ballots .now) (x .next) .phase ≡ x .phase → refused (c .before .before .before .before .before .before .before .before .before .before .before .before .before .before .before .before .args .head) (c .before .before .before .before .before .before .before .before .before .before .before .before .before .before .before .before .args .ballots .now) (x .next) ≡ true)
+    _ _ _ _ _ (c .before .before .before .before .before .before .before .before .before .loop .said) _ (c .with-said2 .ensures)
+    (c .before .before .before .before .before .before .before .before .before .loop .inv .0) (c .before .before .before .before .before .before .before .before .before .loop .inv .1) (c .before .before .before .before .before .before .before .before .before .loop .inv .3) (c .before .before .before .before .before .before .before .before .before .loop .inv .4)
+    (λ b q. sym (c .before .before .is-refused .ensures ∙ refused-present (c .before .before .before .before .before .before .before .before .before .before .before .before .before .before .before .before .args .head) (c .before .before .before .before .before .before .before .before .before .before .before .before .before .before .before .before .args .ballots .now) (c .before .before .before .before .before .before .before .before .before .loop .i) (c .before .before .before .before .before .before .before .before .before .loop .inv .3) _ _ _ _ _ _ (c .before .before .before .before .sender-at .ensures) (c .before .before .before .before .before .before .before .before .before .before .before .before .before .before .before .before .pre .0) (test .1) (test .0) (c .before .before .before .code-at .ensures ∙ code-read (c .before .before .before .before .before .before .before .before .before .before .before .before .before .before .before .before .args .head .n) (c .before .before .before .before .before .before .before .before .before .before .before .before .before .before .before .before .args .ballots .now) (c .before .before .before .before .before .before .before .before .before .loop .i) (test .1)) (c .before .before .before .before .before .before .before .before .before .before .barred-from .ensures .1 _ low) (c .before .before .before .before .before .before .before .before .before .loop .inv .4 .1) (c .before .before .before .before .before .before .before .before .before .loop .inv .4 .3 _ low)) ∙ c .before .if2 .taken)
+
+mul-said : tie.Need-mul-said Inv-loop μ-loop
+mul-said c =
+    let test = test-passed (c .before .before .before .before .before .before .before .before .before .before .before .before .before .before .before .before .args .head) (c .before .before .before .before .before .before .before .before .before .before .before .before .before .before .before .before .args .ballots .now) (c .before .before .before .before .before .before .before .before .before .loop .i) _ _ _ _ _ (c .before .before .before .before .before .before .before .phase-at .ensures) (c .before .before .before .before .before .before .before .before .before .before .before .before .before .codes-of .ensures ∙ ap codesOf (c .before .before .before .before .before .before .before .before .before .before .before .before .before .before .class .ensures)) (c .before .before .before .before .before .before .before .before .before .before .before .statuses-of .ensures ∙ ap statusesOf (c .before .before .before .before .before .before .before .before .before .before .before .before .class2 .ensures)) (c .before .before .before .before .before .before .stands .ensures) (c .before .before .before .before .before .if1 .left) in
+    let low : c .before .before .before .code-at .result < 5 = omega (arith, c .before .before .before .code-at .ensures, low-code (c .before .before .before .before .before .before .before .before .before .before .before .before .before .before .before .before .args .head .n) (c .before .before .before .before .before .before .before .before .before .before .before .before .before .before .before .before .args .ballots .now) (c .before .before .before .before .before .before .before .before .before .loop .i) (test .1)) in
+    omega arith
+
+array-read-said : tie.Need-array-read-said Inv-loop μ-loop
+array-read-said c =
+    let test = test-passed (c .before .before .before .before .before .before .before .before .before .before .before .before .before .before .before .before .args .head) (c .before .before .before .before .before .before .before .before .before .before .before .before .before .before .before .before .args .ballots .now) (c .before .before .before .before .before .before .before .before .before .loop .i) _ _ _ _ _ (c .before .before .before .before .before .before .before .phase-at .ensures) (c .before .before .before .before .before .before .before .before .before .before .before .before .before .codes-of .ensures ∙ ap codesOf (c .before .before .before .before .before .before .before .before .before .before .before .before .before .before .class .ensures)) (c .before .before .before .before .before .before .before .before .before .before .before .statuses-of .ensures ∙ ap statusesOf (c .before .before .before .before .before .before .before .before .before .before .before .before .class2 .ensures)) (c .before .before .before .before .before .before .stands .ensures) (c .before .before .before .before .before .if1 .left) in
+    let low : c .before .before .before .code-at .result < 5 = omega (arith, c .before .before .before .code-at .ensures, low-code (c .before .before .before .before .before .before .before .before .before .before .before .before .before .before .before .before .args .head .n) (c .before .before .before .before .before .before .before .before .before .before .before .before .before .before .before .before .args .ballots .now) (c .before .before .before .before .before .before .before .before .before .loop .i) (test .1)) in
+    omega (arith, c .before .before .before .before .before .before .before .before .before .loop .inv .2)
+
+alone-requires : tie.Need-alone-requires Inv-loop μ-loop
+alone-requires c κs =
+    let test = test-passed (c .before .before .before .before .before .before .before .before .before .before .before .before .before .before .before .args .head) (c .before .before .before .before .before .before .before .before .before .before .before .before .before .before .before .args .ballots .now) (c .before .before .before .before .before .before .before .before .loop .i) _ _ _ _ _ (c .before .before .before .before .before .before .phase-at .ensures) (c .before .before .before .before .before .before .before .before .before .before .before .before .codes-of .ensures ∙ ap codesOf (c .before .before .before .before .before .before .before .before .before .before .before .before .before .class .ensures)) (c .before .before .before .before .before .before .before .before .before .before .statuses-of .ensures ∙ ap statusesOf (c .before .before .before .before .before .before .before .before .before .before .before .class2 .ensures)) (c .before .before .before .before .before .stands .ensures) (c .before .before .before .before .if1 .left) in
+    omega (arith, c .before .before .before .sender-at .ensures, low-sender (c .before .before .before .before .before .before .before .before .before .before .before .before .before .before .before .args .head .n) (c .before .before .before .before .before .before .before .before .before .before .before .before .before .before .before .args .ballots .now) (c .before .before .before .before .before .before .before .before .loop .i) (test .1), c .before .before .before .before .before .before .before .before .before .before .before .before .before .before .before .pre .0 .0)
+
+mul-said-2 : tie.Need-mul-said-2 Inv-loop μ-loop
+mul-said-2 c =
+    let test = test-passed (c .before .before .before .before .before .before .before .before .before .before .before .before .before .before .before .before .args .head) (c .before .before .before .before .before .before .before .before .before .before .before .before .before .before .before .before .args .ballots .now) (c .before .before .before .before .before .before .before .before .before .loop .i) _ _ _ _ _ (c .before .before .before .before .before .before .before .phase-at .ensures) (c .before .before .before .before .before .before .before .before .before .before .before .before .before .codes-of .ensures ∙ ap codesOf (c .before .before .before .before .before .before .before .before .before .before .before .before .before .before .class .ensures)) (c .before .before .before .before .before .before .before .before .before .before .before .statuses-of .ensures ∙ ap statusesOf (c .before .before .before .before .before .before .before .before .before .before .before .before .class2 .ensures)) (c .before .before .before .before .before .before .stands .ensures) (c .before .before .before .before .before .if1 .left) in
+    let low : c .before .before .before .code-at .result < 5 = omega (arith, c .before .before .before .code-at .ensures, low-code (c .before .before .before .before .before .before .before .before .before .before .before .before .before .before .before .before .args .head .n) (c .before .before .before .before .before .before .before .before .before .before .before .before .before .before .before .before .args .ballots .now) (c .before .before .before .before .before .before .before .before .before .loop .i) (test .1)) in
+    omega arith
+
+array-write-said : tie.Need-array-write-said Inv-loop μ-loop
+array-write-said c =
+    let test = test-passed (c .before .before .before .before .before .before .before .before .before .before .before .before .before .before .before .before .args .head) (c .before .before .before .before .before .before .before .before .before .before .before .before .before .before .before .before .args .ballots .now) (c .before .before .before .before .before .before .before .before .before .loop .i) _ _ _ _ _ (c .before .before .before .before .before .before .before .phase-at .ensures) (c .before .before .before .before .before .before .before .before .before .before .before .before .before .codes-of .ensures ∙ ap codesOf (c .before .before .before .before .before .before .before .before .before .before .before .before .before .before .class .ensures)) (c .before .before .before .before .before .before .before .before .before .before .before .statuses-of .ensures ∙ ap statusesOf (c .before .before .before .before .before .before .before .before .before .before .before .before .class2 .ensures)) (c .before .before .before .before .before .before .stands .ensures) (c .before .before .before .before .before .if1 .left) in
+    let low : c .before .before .before .code-at .result < 5 = omega (arith, c .before .before .before .code-at .ensures, low-code (c .before .before .before .before .before .before .before .before .before .before .before .before .before .before .before .before .args .head .n) (c .before .before .before .before .before .before .before .before .before .before .before .before .before .before .before .before .args .ballots .now) (c .before .before .before .before .before .before .before .before .before .loop .i) (test .1)) in
+    omega (arith, c .before .before .before .before .before .before .before .before .before .loop .inv .2)
+
+add-i : tie.Need-add-i Inv-loop μ-loop
+add-i c = omega arith
+
+loop-less : tie.Need-loop-less Inv-loop μ-loop
+loop-less c = omega arith
+
+loop-again : tie.Need-loop-again Inv-loop μ-loop
+loop-again c =
+    let test = test-passed (c .before .before .before .before .before .before .before .before .before .before .before .before .before .before .before .before .args .head) (c .before .before .before .before .before .before .before .before .before .before .before .before .before .before .before .before .args .ballots .now) (c .before .before .before .before .before .before .before .before .before .loop .i) _ _ _ _ _ (c .before .before .before .before .before .before .before .phase-at .ensures) (c .before .before .before .before .before .before .before .before .before .before .before .before .before .codes-of .ensures ∙ ap codesOf (c .before .before .before .before .before .before .before .before .before .before .before .before .before .before .class .ensures)) (c .before .before .before .before .before .before .before .before .before .before .before .statuses-of .ensures ∙ ap statusesOf (c .before .before .before .before .before .before .before .before .before .before .before .before .class2 .ensures)) (c .before .before .before .before .before .before .stands .ensures) (c .before .before .before .before .before .if1 .left) in
+    let low : c .before .before .before .code-at .result < 5 = omega (arith, c .before .before .before .code-at .ensures, low-code (c .before .before .before .before .before .before .before .before .before .before .before .before .before .before .before .before .args .head .n) (c .before .before .before .before .before .before .before .before .before .before .before .before .before .before .before .before .args .ballots .now) (c .before .before .before .before .before .before .before .before .before .loop .i) (test .1)) in (
+      omega arith,
+      omega arith,
+      length-set (c .before .before .before .before .before .before .before .before .before .loop .said) (c .before .before .before .code-at .result) _ ∙ c .before .before .before .before .before .before .before .before .before .loop .inv .2,
+      none-more (c .before .before .before .before .before .before .before .before .before .loop .inv .3) (sym (c .before .before .is-refused .ensures ∙ refused-present (c .before .before .before .before .before .before .before .before .before .before .before .before .before .before .before .before .args .head) (c .before .before .before .before .before .before .before .before .before .before .before .before .before .before .before .before .args .ballots .now) (c .before .before .before .before .before .before .before .before .before .loop .i) (c .before .before .before .before .before .before .before .before .before .loop .inv .3) _ _ _ _ _ _ (c .before .before .before .before .sender-at .ensures) (c .before .before .before .before .before .before .before .before .before .before .before .before .before .before .before .before .pre .0) (test .1) (test .0) (c .before .before .before .code-at .ensures ∙ code-read (c .before .before .before .before .before .before .before .before .before .before .before .before .before .before .before .before .args .head .n) (c .before .before .before .before .before .before .before .before .before .before .before .before .before .before .before .before .args .ballots .now) (c .before .before .before .before .before .before .before .before .before .loop .i) (test .1)) (c .before .before .before .before .before .before .before .before .before .before .barred-from .ensures .1 _ low) (c .before .before .before .before .before .before .before .before .before .loop .inv .4 .1) (c .before .before .before .before .before .before .before .before .before .loop .inv .4 .3 _ low)) ∙ c .before .if2 .left),
+      sees-present _ _ _ _ _ _ (c .before .before .before .before .before .before .before .before .before .loop .said) (c .before .before .before .before .before .before .before .before .before .loop .inv .4) (c .before .before .before .code-at .result) _ (c .before .before .before .before .before .before .before .before .before .loop .inv .2) (test .0) (c .before .before .before .code-at .ensures ∙ code-read (c .before .before .before .before .before .before .before .before .before .before .before .before .before .before .before .before .args .head .n) (c .before .before .before .before .before .before .before .before .before .before .before .before .before .before .before .before .args .ballots .now) (c .before .before .before .before .before .before .before .before .before .loop .i) (test .1)) low (c .alone .ensures ∙ ap alone (c .before .before .before .before .sender-at .ensures)),
+    )
+
+with-said-requires-3 : tie.Need-with-said-requires-3 Inv-loop μ-loop
+with-said-requires-3 c κs = tt
+
+returns-3 : tie.Need-returns-3 Inv-loop μ-loop
+returns-3 c =
+    look-ends (c .before .before .before .before .before .before .before .before .before .args .head) (c .before .before .before .before .before .before .before .before .before .args .ballots .now)
+    (λ x. x .next < ballots (c .before .before .before .before .before .before .before .before .before .args .ballots .now) → ballotAt (c .before .before .before .before .before .before .before .before .before .args .ballots .now) (x .next) .phase ≡ x .phase → refused (c .before .before .before .before .before .before .before .before .before .args .head) (c .before .before .before .before .before .before .before .before .before .args .ballots .now) (x .next) ≡ true)
+    _ _ _ _ _ (c .before .before .loop .said) _ (c .with-said3 .ensures)
+    (c .before .before .loop .inv .0) (c .before .before .loop .inv .1) (c .before .before .loop .inv .3) (c .before .before .loop .inv .4)
+    (λ b q. absurd (omega (arith, b, c .before .loop-test .left)))
 
 pub with-present-spec : {M : Type 1} → statement M
 with-present-spec =
     tie.close
     (tie.spec
-    value-code-requires
-    status-code-requires
+    Inv-loop
+    μ-loop
+    class-requires
+    codes-of-requires
+    class-requires-2
+    statuses-of-requires
+    barred-from-requires
+    loop-holds
+    phase-at-requires
+    stands-requires
+    with-said-requires
+    returns
+    sender-at-requires
+    code-at-requires
+    mul-is-refused
+    array-read-is-refused
+    mul-is-refused-2
+    array-read-is-refused-2
+    is-refused-requires
+    with-said-requires-2
+    returns-2
     alone-requires
-    kept-requires
-    kept-requires-2
-    kept-requires-3
-    kept-requires-4
-    kept-requires-5
-    returns)
+    mul-said
+    array-read-said
+    mul-said-2
+    array-write-said
+    add-i
+    loop-less
+    loop-again
+    with-said-requires-3
+    returns-3)

@@ -1,0 +1,224 @@
+-- What a look tells at its end: the number that a list gives, and the head after steps 1 and 2.
+use Prim.Native.Nat.{ℕ, _+_, _*_, _≤_, _<_}
+use mathlib.Core.Path.{_≡_, refl, sym, ap, ap₂, fun-ext, _∙_}
+use mathlib.Core.List.{List}
+use mathlib.Core.Bool.{Bool, true, false, cond, _&&_, _||_}
+use mathlib.Core.Logic.{_⊎_, inl, inr}
+use native.Mathlib.Decide.{ℕ-discrete}
+use native.Mathlib.Omega.{arith}
+use lib.Dec.{ltb, eqb, lit<}
+use borrow.Author.Tests.{lt-ltb, le-ltb, ne-eqb}
+use Rattle.rules.specs.declared.Value.{Value}
+use Rattle.rules.specs.declared.Value.the-variants.{Zero, One, Blank}
+use Rattle.rules.specs.declared.Ballot.{Ballot}
+use Rattle.rules.specs.declared.Head.{Head}
+use Rattle.rules.specs.declared.Ticked.{Ticked}
+use Rattle.rules.specs.Number.{firstThatApplies}
+use Rattle.rules.specs.Below.{first, some}
+use Rattle.rules.specs.Ballot.{valueCode, statusCode, sameValue, ballotAt, breaksRule}
+use Rattle.rules.specs.Heard.{member, setOf, says}
+use Rattle.rules.specs.Head.{sound}
+use Rattle.rules.specs.Tick.{ballots, leader, copying, moved, heardWith, added, gathered, ownOtherwise, contradicts}
+use Rattle.rules.proofs.Counting.Truth.{means-same, means-as, means-self, means-or, means-eq, and-never, or-left-false, or-right-false}
+use Rattle.rules.proofs.Counting.Below.{NoneBefore, first-le, first-before, first-holds, some-here, some-not, not-some, means-some}
+use Rattle.rules.proofs.Counting.Sets.{member-none, member-setOf, setOf-lt, setOf-is}
+use Rattle.rules.proofs.Meaning.Meanings.{means-sound}
+use Rattle.rules.proofs.OneTick.Leader.{leader-leads}
+use Rattle.rules.proofs.OneTick.Senders.{Moves, stays, copies, moves}
+use Rattle.engine.specs.declared.look.Look.{Look}
+use Rattle.engine.specs.Look.{refused, code, highest, isSaid, saidIn, lookAt, Looks, Fits, shown, listNumber, listened}
+use Rattle.engine.proofs.Growing.{highest-most, highest-least, highest-within}
+use Rattle.engine.proofs.Refusing.{status-low, code-low, stands-clean}
+use Rattle.engine.proofs.Looking.{sees}
+
+-- ---- the first that is refused
+
+pub found : (k r : ℕ) (p : ℕ → Bool) → r ≡ first k p → r < k → some k p ≡ true
+found k r p e b = ap (λ (x : ℕ). ltb x k) (sym e) ∙ lt-ltb r k b
+
+pub missed : (k r : ℕ) (p : ℕ → Bool) → r ≡ first k p → k ≤ r → some k p ≡ false
+missed k r p e b = ap (λ (x : ℕ). ltb x k) (sym e) ∙ le-ltb r k b
+
+pub fits-sound : (h : Head) → sound h ≡ true → Fits h
+fits-sound h e = let s = means-sound h .0 e in (s .heads .1, omega (arith, s .heads .1, s .own))
+
+module _ (h : Head) (l : List ℕ) where
+  pub before-first : (at : ℕ) → at ≡ first (ballots l) (refused h l) → NoneBefore at (refused h l)
+  before-first at e j b = first-before (ballots l) (refused h l) j (omega arith)
+
+  pub first-refused : (at : ℕ) → at ≡ first (ballots l) (refused h l) → at < ballots l → refused h l at ≡ true
+  first-refused at e b = ap (refused h l) e ∙ first-holds (ballots l) (refused h l) (omega arith)
+
+  pub looked-next : (look : Look) → look ≡ lookAt h l (first (ballots l) (refused h l)) → look .next ≡ first (ballots l) (refused h l)
+  unfolding lookAt
+  looked-next look e = ap (λ (x : Look). x .next) e
+
+  -- a look that came to the end
+  pub looked-all : (look : Look) → look ≡ lookAt h l (first (ballots l) (refused h l)) → ballots l ≤ look .next → Looks h l look × (look .next ≡ ballots l)
+  looked-all look e b =
+      let next = looked-next look e in
+      let most = first-le (ballots l) (refused h l) in
+      ((omega arith, before-first (look .next) next, e ∙ ap (lookAt h l) (sym next)), omega arith)
+
+-- ---- the number
+
+module _ (h : Head) (l : List ℕ) where
+  not-6 : (j : ℕ) → refused h l j ≡ false → breaksRule (h .n) l j ≡ false
+  not-6 j e = stands-clean h l j e
+
+  pub not-7 : (j : ℕ) → refused h l j ≡ false → ownOtherwise h (ballotAt l j) ≡ false
+  unfolding refused
+  not-7 j e = or-left-false (ownOtherwise h (ballotAt l j)) _ (or-right-false (breaksRule (h .n) l j) _ e)
+
+  not-8 : (j : ℕ) → refused h l j ≡ false → contradicts h l j ≡ false
+  unfolding refused
+  not-8 j e = or-right-false (ownOtherwise h (ballotAt l j)) _ (or-right-false (breaksRule (h .n) l j) _ e)
+
+  -- none is refused
+  pub list-0 : NoneBefore (ballots l) (refused h l) → listNumber h l ≡ 0
+  unfolding listNumber firstThatApplies
+  list-0 none =
+      simp (
+        some-not (ballots l) (breaksRule (h .n) l) (λ j b. not-6 j (none j b)),
+        some-not (ballots l) (λ i. ownOtherwise h (ballotAt l i)) (λ j b. not-7 j (none j b)),
+        some-not (ballots l) (contradicts h l) (λ j b. not-8 j (none j b)),
+      )
+
+  pub list-6 : some (ballots l) (breaksRule (h .n) l) ≡ true → _≡_ {A = Ticked} (record { number = 6; head = h }) (listened h l)
+  unfolding listened listNumber firstThatApplies
+  list-6 e = simp e
+
+  pub list-7 : some (ballots l) (breaksRule (h .n) l) ≡ false → some (ballots l) (λ i. ownOtherwise h (ballotAt l i)) ≡ true → _≡_ {A = Ticked} (record { number = 7; head = h }) (listened h l)
+  unfolding listened listNumber firstThatApplies
+  list-7 e q = simp (e, q)
+
+  -- one is, but by neither 6 nor 7
+  pub list-8 : (at : ℕ) → at < ballots l → refused h l at ≡ true → some (ballots l) (breaksRule (h .n) l) ≡ false → some (ballots l) (λ i. ownOtherwise h (ballotAt l i)) ≡ false → _≡_ {A = Ticked} (record { number = 8; head = h }) (listened h l)
+  unfolding refused listened listNumber firstThatApplies
+  list-8 at b r e q =
+      let here : contradicts h l at ≡ true = left (breaksRule (h .n) l at) (ownOtherwise h (ballotAt l at)) (contradicts h l at) (not-some (ballots l) (breaksRule (h .n) l) e at b) (not-some (ballots l) (λ i. ownOtherwise h (ballotAt l i)) q at b) r in
+      simp (e, q, some-here (ballots l) (contradicts h l) at b here)
+    where
+      left : (x y z : Bool) → x ≡ false → y ≡ false → x || (y || z) ≡ true → z ≡ true
+      left x y z p q r = sym (ap₂ (λ (s t : Bool). s || (t || z)) p q) ∙ r
+
+-- ---- step 2
+
+module _ (h : Head) (l : List ℕ) where
+  abbrev above : ℕ → Bool
+  above i = ltb (h .phase) (ballotAt l i .phase)
+
+  -- the highest phase is the one that step 2 leaves
+  pub highest-moved : highest h l (ballots l) ≡ moved h l .phase
+  highest-moved = go (moves h l)
+    where
+      go : Moves h l → highest h l (ballots l) ≡ moved h l .phase
+      go (stays q f) = omega (arith, highest-least h l (ballots l), highest-within h l (ballots l) (h .phase) (omega arith) f, ap (λ (k : Head). k .phase) q)
+      go (copies i b q u f) = omega (arith, highest-most h l (ballots l) i b, highest-within h l (ballots l) (ballotAt l i .phase) (omega arith) f, ap (λ (k : Head). k .phase) q)
+
+  highest-above : ltb (h .phase) (highest h l (ballots l)) ≡ some (ballots l) above
+  highest-above = go (moves h l)
+    where
+      go : Moves h l → ltb (h .phase) (highest h l (ballots l)) ≡ some (ballots l) above
+      go (stays q f) =
+          le-ltb (h .phase) (highest h l (ballots l)) (highest-within h l (ballots l) (h .phase) (omega arith) f)
+          ∙ sym (some-not (ballots l) above (λ j b. le-ltb (h .phase) (ballotAt l j .phase) (f j b)))
+      go (copies i b q u f) =
+          lt-ltb (h .phase) (highest h l (ballots l)) (omega (arith, highest-most h l (ballots l) i b))
+          ∙ sym (some-here (ballots l) above i b (lt-ltb (h .phase) (ballotAt l i .phase) u))
+
+  pub moved-ahead : h .phase < highest h l (ballots l) → copying h (ballotAt l (leader l)) ≡ moved h l
+  unfolding moved
+  moved-ahead b = sym (ap (λ (t : Bool). cond t (copying h (ballotAt l (leader l))) h) (sym highest-above ∙ lt-ltb (h .phase) (highest h l (ballots l)) b))
+
+  pub moved-not : highest h l (ballots l) ≤ h .phase → h ≡ moved h l
+  unfolding moved
+  moved-not b = sym (ap (λ (t : Bool). cond t (copying h (ballotAt l (leader l))) h) (sym highest-above ∙ le-ltb (h .phase) (highest h l (ballots l)) b))
+
+  pub leader-there : h .phase < highest h l (ballots l) → leader l < ballots l
+  leader-there b = go (moves h l)
+    where
+      go : Moves h l → leader l < ballots l
+      go (stays q f) = absurd (omega (arith, highest-within h l (ballots l) (h .phase) (omega arith) f))
+      go (copies i m q u f) = leader-leads l (omega arith) .within
+
+-- ---- step 1
+
+some-or : (k : ℕ) (a b : ℕ → Bool) → some k a || some k b ≡ some k (λ j. a j || b j)
+some-or k a b =
+    means-same (means-as to from (means-or (means-some (λ j. means-self (a j))) (means-some (λ j. means-self (b j)))))
+    (means-some (λ j. means-or (means-self (a j)) (means-self (b j))))
+  where
+    to : ((j : ℕ) × (j < k) × (a j ≡ true)) ⊎ ((j : ℕ) × (j < k) × (b j ≡ true)) → (j : ℕ) × (j < k) × ((a j ≡ true) ⊎ (b j ≡ true))
+    to (inl r) = (r .0, r .1, inl (r .2))
+    to (inr r) = (r .0, r .1, inr (r .2))
+
+    from : (j : ℕ) × (j < k) × ((a j ≡ true) ⊎ (b j ≡ true)) → ((j : ℕ) × (j < k) × (a j ≡ true)) ⊎ ((j : ℕ) × (j < k) × (b j ≡ true))
+    from (j, m, inl e) = inl (j, m, e)
+    from (j, m, inr e) = inr (j, m, e)
+
+-- two codes for each value
+two-codes : (v : Value) (b : Ballot) → eqb (code b) (valueCode v * 2) || eqb (code b) (valueCode v * 2 + 1) ≡ sameValue (b .value) v
+two-codes v b =
+    means-same
+    (means-as to from (means-or (means-eq (code b) (valueCode v * 2)) (means-eq (code b) (valueCode v * 2 + 1))))
+    (means-eq (valueCode (b .value)) (valueCode v))
+  where
+    to : (code b ≡ valueCode v * 2) ⊎ (code b ≡ valueCode v * 2 + 1) → valueCode (b .value) ≡ valueCode v
+    to (inl e) = omega (arith, status-low (b .status))
+    to (inr e) = omega (arith, status-low (b .status))
+
+    from : valueCode (b .value) ≡ valueCode v → (code b ≡ valueCode v * 2) ⊎ (code b ≡ valueCode v * 2 + 1)
+    from e = go (ℕ-discrete (statusCode (b .status)) 0)
+      where
+        go : Dec (statusCode (b .status) ≡ 0) → (code b ≡ valueCode v * 2) ⊎ (code b ≡ valueCode v * 2 + 1)
+        go (yes z) = inl (omega arith)
+        go (no n) = inr (omega (arith, n, status-low (b .status)))
+
+-- who said a value, decided or not
+said-value : (l : List ℕ) (k p : ℕ) (v : Value) (s : ℕ) → some k (isSaid l p (valueCode v * 2) s) || some k (isSaid l p (valueCode v * 2 + 1) s) ≡ some k (λ i. says p v s (ballotAt l i))
+unfolding says
+said-value l k p v s = some-or k (isSaid l p (valueCode v * 2) s) (isSaid l p (valueCode v * 2 + 1) s) ∙ ap (some k) (fun-ext (λ j. both (eqb (ballotAt l j .phase) p) (eqb (ballotAt l j .sender) s) (eqb (code (ballotAt l j)) (valueCode v * 2)) (eqb (code (ballotAt l j)) (valueCode v * 2 + 1)) ∙ ap (λ (t : Bool). eqb (ballotAt l j .phase) p && (eqb (ballotAt l j .sender) s && t)) (two-codes v (ballotAt l j))))
+  where
+    both : (a b x y : Bool) → (a && (b && x)) || (a && (b && y)) ≡ a && (b && (x || y))
+    both true true x y = refl
+    both true false x y = refl
+    both false b x y = refl
+
+module _ (h : Head) (l : List ℕ) (look : Look) (is : Looks h l look) (end : look .next ≡ ballots l) where
+  abbrev saw : (c : ℕ) → ℕ
+  saw c = saidIn l (ballots l) (look .phase) c
+
+  none : (j : ℕ) → j < ballots l → refused h l j ≡ false
+  none j b = is .1 j (omega (arith, end))
+
+  at-end : look ≡ lookAt h l (ballots l)
+  at-end = is .2 ∙ ap (lookAt h l) end
+
+  -- whom the head hears with a value
+  heard-with : (v : Value) (x a b : ℕ) → a ≡ saw (valueCode v * 2) → ((s : ℕ) → s < 32 → member s b ≡ some (ballots l) (isSaid l (look .phase) (valueCode v * 2 + 1) s))
+      → setOf 32 (λ s. member s x || (member s a || member s b)) ≡ setOf 32 (λ s. member s x || some (ballots l) (λ i. says (look .phase) v s (ballotAt l i)))
+  heard-with v x a b ea eb =
+      setOf-is 32 _ _ (setOf-lt 32 _)
+      (λ s m. member-setOf 32 _ s m ∙ ap (λ (t : Bool). member s x || t) (ap₂ (λ (t u : Bool). t || u) (ap (member s) ea ∙ member-setOf 32 _ s m) (eb s m) ∙ said-value l (ballots l) (look .phase) v s))
+
+  no-blank-decided : (s : ℕ) → some (ballots l) (isSaid l (look .phase) 5 s) ≡ false
+  no-blank-decided s =
+      some-not (ballots l) (isSaid l (look .phase) 5 s)
+      (λ j b. ap (λ (t : Bool). eqb (ballotAt l j .phase) (look .phase) && (eqb (ballotAt l j .sender) s && t)) (ne-eqb (code (ballotAt l j)) 5 (λ q. omega (arith, code-low (h .n) l j (stands-clean h l j (none j b))))) ∙ ap (λ (t : Bool). eqb (ballotAt l j .phase) (look .phase) && t) (and-never (eqb (ballotAt l j .sender) s)) ∙ and-never (eqb (ballotAt l j .phase) (look .phase)))
+
+  shown-added : (g : Head) → look .phase ≡ g .phase → shown g look ≡ added g l
+  unfolding added heardWith
+  shown-added g e =
+      let s = sees h l (ballots l) look at-end in
+      let z = heard-with Zero (g .zeros) (look .zeros) (look .«zeros_decided») (s .3 0 (lit< tt)) (λ t m. ap (member t) (s .3 1 (lit< tt)) ∙ member-setOf 32 _ t m) in
+      let o = heard-with One (g .ones) (look .ones) (look .«ones_decided») (s .3 2 (lit< tt)) (λ t m. ap (member t) (s .3 3 (lit< tt)) ∙ member-setOf 32 _ t m) in
+      let k = heard-with Blank (g .blanks) (look .blanks) 0 (s .3 4 (lit< tt)) (λ t m. member-none t ∙ sym (no-blank-decided t)) in
+      simp (z, o, k, e)
+
+  pub shown-gathered : (g : Head) → g ≡ moved h l → shown g look ≡ gathered h l
+  unfolding gathered
+  shown-gathered g e = shown-added g (sym (sees h l (ballots l) look at-end .0) ∙ highest-moved h l ∙ sym (ap (λ (k : Head). k .phase) e)) ∙ ap (λ (k : Head). added k l) e
+
+  pub look-phase : highest h l (ballots l) ≡ look .phase
+  look-phase = sees h l (ballots l) look at-end .0
