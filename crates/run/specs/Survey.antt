@@ -7,7 +7,7 @@ use lib.ListN.{getD, set, replicate}
 use lib.Seq.{sets}
 use Rattle.rules.specs.declared.Head.{Head}
 use Rattle.rules.specs.Sizes.{headsMost, ballotBytes, setBytes}
-use Rattle.rules.specs.Ballot.{statusCode, bytesOf}
+use Rattle.rules.specs.Ballot.{statusCode, bytesOf, fiveAt}
 use Rattle.rules.specs.Heard.{member}
 use Rattle.rules.specs.Head.{ballotOf}
 use Rattle.rules.specs.Tick.{tickOf}

@@ -12,7 +12,11 @@ use Rattle.bench.proofs.print_report.Tie as tie
 
 -- a text's bytes are in it
 inside : {text : Text} (file : List ℕ) → text ≡ textOf (reportOf file) → text .length ≤ length (text .bytes)
-inside file e = subst (λ (t : Text). t .length ≤ length (t .bytes)) (sym e) (omega (arith, length-append (reportOf file) (replicate (4096 - length (reportOf file)) 0)))
+inside file e =
+    subst
+    (λ (t : Text). t .length ≤ length (t .bytes))
+    (sym e)
+    (omega (arith, length-append (reportOf file) (replicate (4096 - length (reportOf file)) 0)))
 
 report-requires : tie.Need-report-requires
 report-requires c κs = search needs
@@ -21,7 +25,12 @@ array-share-prefix-bytes : tie.Need-array-share-prefix-bytes
 array-share-prefix-bytes c = inside (c .before .before .before .args .file .now) (c .before .report .ensures)
 
 slice-aggregate-write-all : tie.Need-slice-aggregate-write-all
-slice-aggregate-write-all c = sym (length-take-le (c .before .before .report .result .length) (c .before .before .report .result .bytes) (inside (c .before .before .before .before .args .file .now) (c .before .before .report .ensures)))
+slice-aggregate-write-all c =
+    sym
+    (length-take-le
+    _
+    _
+    (inside (c .before .before .before .before .args .file .now) (c .before .before .report .ensures)))
 
 write-all-requires : tie.Need-write-all-requires
 write-all-requires c κs = search needs
