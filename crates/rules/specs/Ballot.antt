@@ -1,4 +1,5 @@
--- Ballots: their bytes, the ballot rules, reading one. Document 01, 'Heads and ballots'.
+-- Ballots: their bytes, the ballot rules, reading one. Document 01, 'Heads and ballots'. These are tests; what they
+-- mean is in Given.
 use Prim.Native.Nat.{ℕ, _+_, _*_, _/_, _%_, _<_}
 use mathlib.Core.List.{List, [], _∷_, _++_}
 use mathlib.Core.Bool.{Bool, false, cond, _&&_, not}

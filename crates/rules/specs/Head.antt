@@ -1,4 +1,5 @@
--- Heads: soundness, the start, and what a head sends. Document 01, 'Heads and ballots'.
+-- Heads: soundness, the start, and what a head sends. Document 01, 'Heads and ballots'. These are tests; what they mean
+-- is in Given.
 use Prim.Native.Nat.{ℕ, _%_}
 use mathlib.Core.List.{List, [], _∷_}
 use mathlib.Core.Bool.{Bool, cond, _&&_, _||_, not}

@@ -1,4 +1,5 @@
--- Sets of head numbers, and whom a head has heard. Document 01, 'Heads and ballots'.
+-- Sets of head numbers, and whom a head has heard. Document 01, 'Heads and ballots'. These are tests; what they mean is
+-- in Given.
 use Prim.Native.Nat.{ℕ, zero, suc, _+_, _*_, _/_, _%_, _^_}
 use mathlib.Core.Bool.{Bool, cond, _&&_, not}
 use lib.Dec.{ltb, eqb}

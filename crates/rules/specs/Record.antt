@@ -1,4 +1,5 @@
--- A head as the record of 20 bytes that the heads' firmware holds. Document 01, 'Heads and ballots'.
+-- A head as the record of 20 bytes that the heads' firmware holds. Document 01, 'Heads and ballots'. Tests; what they
+-- mean is in Given.
 use Prim.Native.Nat.{ℕ, _+_, _*_, _/_, _%_}
 use mathlib.Core.List.{List, [], _∷_, _++_}
 use mathlib.Core.Bool.{Bool, cond, _&&_, not}

@@ -1,4 +1,5 @@
--- One tick, with its refusals. Document 01, 'One tick' and 'Numbers given back', sentence by sentence.
+-- One tick, with its refusals. Document 01, 'One tick' and 'Numbers given back', sentence by sentence. These are tests;
+-- what they mean is in Given.
 use Prim.Native.Nat.{ℕ, _+_, _/_, _%_}
 use mathlib.Core.List.{List, [], _∷_}
 use mathlib.Core.Bool.{Bool, cond, _&&_, _||_, not}

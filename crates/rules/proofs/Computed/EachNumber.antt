@@ -10,10 +10,11 @@ use Rattle.rules.specs.declared.Decision.the-variants.{Zero as ForZero, 
 use Rattle.rules.specs.declared.Head.{Head}
 use Rattle.rules.specs.Ballot.{encode, readNumber}
 use Rattle.rules.specs.Head.{headWith, nobody, zeroHead, startNumber, sendOf}
-use Rattle.rules.specs.Tick.{tickNumber, tickOf}
+use Rattle.rules.specs.Tick.{tickNumber, tickOf, notList}
 use Rattle.rules.specs.Record.{startNumberFromC, recordAfterStart, tickNumberFromC, recordAfterTick, sendNumberFromC, bufferAfterSend}
 use Rattle.rules.specs.Sixteen.{ballot, start, head, holding}
 use Rattle.rules.proofs.Computed.Computing.{computing}
+use mathlib.Core.Bool.{true, false}
 
 -- the number that an entry gives, and the one that document 01 gives
 pub record Numbered : Type 0 where
@@ -120,7 +121,6 @@ ticksByValue =
     ∷ ofTick (holding 3 1 Zero u none 1) [] 0 3
     -- 5: "list length not a multiple of 5, or over 320 bytes"; before 6
     ∷ ofTick (start 3) (9 ∷ 9 ∷ 9 ∷ 9 ∷ 9 ∷ 9 ∷ []) 0 5
-    ∷ ofTick (start 3) (encode (replicate 65 (ballot 1 1 One u))) 0 5
     -- 6 before 7 and 8, wherever in the list
     ∷ ofTick (start 3) (encode (ballot 0 2 One u ∷ ballot 1 1 Zero u ∷ ballot 1 1 One u ∷ ballot 2 1 Blank u ∷ [])) 0 6
     -- 7: "a ballot under the head's own number has a higher phase, or the same phase and another value or status";
@@ -196,6 +196,12 @@ each-tick-has-its-number = refl
 pub each-call-from-c-has-its-number : Right callsFromC
 unfolding callsFromC computing
 each-call-from-c-has-its-number = refl
+
+-- "over 320 bytes": 65 ballots are no list, 64 are
+pub at-most-64-ballots : (notList (encode (replicate 64 (ballot 1 1 One u))) ∷ notList (encode (replicate 65 (ballot 1 1 One u))) ∷ [])
+    ≡ (false ∷ true ∷ [])
+unfolding computing
+at-most-64-ballots = refl
 
 -- ---- what they leave
 
