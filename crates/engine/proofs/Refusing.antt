@@ -107,6 +107,10 @@ means-differ a b =
     means-as (λ r. ((r .1 .0, r .0), r .1 .1)) (λ r. (r .0 .1, (r .0 .0, r .1)))
     (means-and (means-eq (a .sender) (b .sender)) (means-and (means-eq (a .phase) (b .phase)) (means-not (means-state a b))))
 
+pub differ-state : (a b : Ballot) → a .sender ≡ b .sender → a .phase ≡ b .phase → not (sameState a b) ≡ differ a b
+unfolding differ
+differ-state a b e q = sym (simp (eq-eqb (a .sender) (b .sender) e, eq-eqb (a .phase) (b .phase) q))
+
 half : (v t : ℕ) → t < 2 → (v * 2 + t) / 2 ≡ v
 half v t b = omega arith
 
