@@ -70,17 +70,16 @@ fn leading(ballots: &[u8], i: usize, best: usize) -> usize
     requires { ⌜ (i < ballotsOf (now ballots)) × (best < ballotsOf (now ballots)) ⌝ }
     ensures { λ r. ⌜ r ≡ cond (aheadOf (ballotAt (now (ballots .entry)) i) (ballotAt (now (ballots .entry)) best)) i best ⌝ }
 {
-    if ahead(ballot_at(ballots, i), ballot_at(ballots, best)) {
-        i
-    } else {
-        best
-    }
+    if ahead(ballots, i, best) { i } else { best }
 }
 
-fn ahead(a: Ballot, b: Ballot) -> bool
-    ensures { λ r. ⌜ r ≡ aheadOf a b ⌝ }
+fn ahead(ballots: &[u8], i: usize, best: usize) -> bool
+    requires { ⌜ (i < ballotsOf (now ballots)) × (best < ballotsOf (now ballots)) ⌝ }
+    ensures { λ r. ⌜ r ≡ aheadOf (ballotAt (now (ballots .entry)) i) (ballotAt (now (ballots .entry)) best) ⌝ }
 {
-    (b.phase < a.phase) | ((a.phase == b.phase) & (a.sender < b.sender))
+    let phase = phase_at(ballots, i);
+    let highest = phase_at(ballots, best);
+    (highest < phase) | ((phase == highest) & (sender_at(ballots, i) < sender_at(ballots, best)))
 }
 
 pub(crate) fn copying(head: Head, ballot: Ballot) -> Head
