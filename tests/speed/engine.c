@@ -39,11 +39,11 @@ struct others {
 
 static uint32_t allowed_at(uint32_t phase);
 static int sound(const struct quick_head *head);
-static int read_odd(const struct quick_head *head, const uint8_t *list, uint32_t count,
+static int read_odd(const struct quick_head *head, const uint8_t *list, size_t count,
                     struct said *said, struct others *others);
-static int read_even(const struct quick_head *head, const uint8_t *list, uint32_t count,
+static int read_even(const struct quick_head *head, const uint8_t *list, size_t count,
                      struct said *said, struct others *others);
-APART static int look_up(const struct quick_head *head, const uint8_t *list, uint32_t i,
+APART static int look_up(const struct quick_head *head, const uint8_t *list, size_t i,
                          struct others *others);
 static uint32_t low_first(const uint8_t *at);
 static void follow(const uint8_t *ballot, uint32_t phase, struct others *others);
@@ -65,11 +65,12 @@ uint32_t quick_tick_head(struct quick_head *head, const uint8_t *ballots, size_t
     if (ballots_len > BALLOTS_BYTES_MOST || ballots_len % BALLOT_BYTES != 0)
         return 5;
     if (ballots_len != 0) {
-        const uint32_t count = (uint32_t)ballots_len / BALLOT_BYTES;
+        const size_t count = ballots_len / BALLOT_BYTES;
         struct said said = { 0, 0, 0 };
         struct others others;
         others.used = others.phase = others.own_ahead = others.differ = 0;
-        if (!(head->phase % 2 == 1 ? read_odd : read_even)(head, ballots, count, &said, &others))
+        if (head->phase % 2 == 1 ? !read_odd(head, ballots, count, &said, &others)
+                                 : !read_even(head, ballots, count, &said, &others))
             return 6;
         number = hear(&after, &said, &others);
         if (number != 0)
@@ -84,13 +85,13 @@ uint32_t quick_tick_head(struct quick_head *head, const uint8_t *ballots, size_t
 /* The two readers give 0 where a ballot breaks a ballot rule: that number comes before all that the
  * rest can find. `code` is a ballot's value and status, low byte first, where its phase is the
  * head's; else it has a higher bit set too. */
-static int read_odd(const struct quick_head *head, const uint8_t *list, uint32_t count,
+static int read_odd(const struct quick_head *head, const uint8_t *list, size_t count,
                     struct said *said, struct others *others)
 {
     const uint32_t n = head->n, present = (head->phase >> 8) << 16 | (head->phase & 0xFF) << 24;
     const uint32_t never = head->phase == 1 ? ~1u : ~0x101u;
     uint64_t values = 0, statuses = 0;
-    uint32_t i;
+    size_t i;
     for (i = 0; i < count; i++) {
         const uint8_t *ballot = list + i * BALLOT_BYTES;
         const uint32_t sender = ballot[0], code = low_first(ballot + 1) ^ present;
@@ -108,13 +109,14 @@ static int read_odd(const struct quick_head *head, const uint8_t *list, uint32_t
     return 1;
 }
 
-static int read_even(const struct quick_head *head, const uint8_t *list, uint32_t count,
+static int read_even(const struct quick_head *head, const uint8_t *list, size_t count,
                      struct said *said, struct others *others)
 {
     const uint32_t n = head->n, present = (head->phase >> 8) << 16 | (head->phase & 0xFF) << 24;
     const uint32_t never = head->phase == 2 ? ~3u : ~0x103u;
     uint64_t values = 0, statuses = 0;
-    uint32_t i, blanks = 0, broken = 0;
+    uint32_t blanks = 0, broken = 0;
+    size_t i;
     for (i = 0; i < count; i++) {
         const uint8_t *ballot = list + i * BALLOT_BYTES;
         const uint32_t sender = ballot[0], code = low_first(ballot + 1) ^ present;
@@ -136,7 +138,7 @@ static int read_even(const struct quick_head *head, const uint8_t *list, uint32_
 }
 
 /* A ballot of another phase: against the one of its sender and phase, then towards the highest. */
-APART static int look_up(const struct quick_head *head, const uint8_t *list, uint32_t i,
+APART static int look_up(const struct quick_head *head, const uint8_t *list, size_t i,
                          struct others *others)
 {
     const uint8_t *ballot = list + i * BALLOT_BYTES;
