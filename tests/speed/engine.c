@@ -1,10 +1,11 @@
 /*
  * The engine of one head, for speed: the list is read once, and what it says at the head's phase is
- * gathered in sets of heads, one bit a head. Only ballots of other phases are looked up.
+ * gathered in sets of heads, one bit a head. Odd phases, at which no blank stands, have a loop of
+ * their own. Ballots of other phases go through a table.
  */
 #include "engine.h"
 
-/* Kept out of the loop over the list, so that what the loop gathers stays in registers. */
+/* Kept out of the loops over the list, so that what they gather stays in registers. */
 #define APART __attribute__((noinline))
 
 #define EACH_WAY(a, b, c) (((a) & (b)) | ((a) & (c)) | ((b) & (c)))
@@ -17,30 +18,36 @@ enum {
     ALLOWED_EVEN = 0x1F
 };
 
-/* What the list says at one phase, in sets of senders. */
+/* Twice the most ballots, so that a free slot is near. */
+enum { SLOTS = 128 };
+
+/* What the list says at the head's phase, in sets of senders. A set of two halves has value or
+ * status 0 below and 1 above. */
 struct said {
-    uint32_t zeros, ones, blanks, undecided, decided;
+    uint64_t values, statuses;
+    uint32_t blanks;
 };
 
-/* The ballots of other phases than the head's: per sender a chain, newest first, and the highest
- * phase with what is said at it. An index in a chain is one more than the ballot's. */
+/* The ballots of other phases than the head's: a table by sender and phase, cleared when the first
+ * one comes, and the highest phase with what is said at it. A slot has one more than an index. */
 struct others {
-    uint8_t newest[32], before[BALLOTS_BYTES_MOST / BALLOT_BYTES];
-    uint32_t own_ahead, differ;
+    uint8_t slot[SLOTS];
+    uint32_t used, own_ahead, differ;
     uint32_t phase, leader, leader_value, leader_status;
     uint32_t zeros, ones, blanks;
 };
 
 static uint32_t allowed_at(uint32_t phase);
 static int sound(const struct quick_head *head);
-APART static int read_list(const struct quick_head *head, const uint8_t *list, size_t count,
-                           struct said *said, struct others *others);
+static int read_odd(const struct quick_head *head, const uint8_t *list, size_t count,
+                    struct said *said, struct others *others);
+static int read_even(const struct quick_head *head, const uint8_t *list, size_t count,
+                     struct said *said, struct others *others);
 APART static int look_up(const struct quick_head *head, const uint8_t *list, size_t i,
                          struct others *others);
 static uint32_t low_first(const uint8_t *at);
 static void follow(const uint8_t *ballot, uint32_t phase, struct others *others);
-static uint32_t clash(const struct quick_head *head, const struct said *said,
-                      const struct others *others);
+static uint32_t hear(struct quick_head *head, const struct said *said, const struct others *others);
 static uint32_t finish(struct quick_head *head, uint32_t coin);
 static void step(struct quick_head *head, uint32_t coin);
 
@@ -50,8 +57,6 @@ uint32_t quick_tick_head(struct quick_head *head, const uint8_t *ballots, size_t
                          uint32_t coin)
 {
     struct quick_head after = *head;
-    struct said said;
-    struct others others;
     uint32_t number;
     if (!sound(head))
         return 3;
@@ -60,23 +65,16 @@ uint32_t quick_tick_head(struct quick_head *head, const uint8_t *ballots, size_t
     if (ballots_len > BALLOTS_BYTES_MOST || ballots_len % BALLOT_BYTES != 0)
         return 5;
     if (ballots_len != 0) {
-        if (!read_list(head, ballots, ballots_len / BALLOT_BYTES, &said, &others))
+        const size_t count = ballots_len / BALLOT_BYTES;
+        struct said said = { 0, 0, 0 };
+        struct others others;
+        others.used = others.phase = others.own_ahead = others.differ = 0;
+        if (head->phase % 2 == 1 ? !read_odd(head, ballots, count, &said, &others)
+                                 : !read_even(head, ballots, count, &said, &others))
             return 6;
-        number = clash(head, &said, &others);
+        number = hear(&after, &said, &others);
         if (number != 0)
             return number;
-        if (others.phase > head->phase) {
-            after.phase = others.phase;
-            after.value = others.leader_value;
-            after.status = others.leader_status;
-            after.zeros = others.zeros;
-            after.ones = others.ones;
-            after.blanks = others.blanks;
-        } else {
-            after.zeros |= said.zeros;
-            after.ones |= said.ones;
-            after.blanks |= said.blanks;
-        }
     }
     number = finish(&after, coin);
     if (number == 0)
@@ -84,60 +82,85 @@ uint32_t quick_tick_head(struct quick_head *head, const uint8_t *ballots, size_t
     return number;
 }
 
-/* 0 where a ballot breaks a ballot rule: that number comes before all that the rest can find.
- * `code` is a ballot's value and status, low byte first, where its phase is the head's; else it has
- * a higher bit set too. A set of two halves has value or status 0 below and 1 above. */
-APART static int read_list(const struct quick_head *head, const uint8_t *list, size_t count,
-                           struct said *said, struct others *others)
+/* The two readers give 0 where a ballot breaks a ballot rule: that number comes before all that the
+ * rest can find. `code` is a ballot's value and status, low byte first, where its phase is the
+ * head's; else it has a higher bit set too. */
+static int read_odd(const struct quick_head *head, const uint8_t *list, size_t count,
+                    struct said *said, struct others *others)
 {
-    const uint32_t n = head->n, allowed = allowed_at(head->phase);
-    const uint32_t present = (head->phase >> 8) << 16 | (head->phase & 0xFF) << 24;
+    const uint32_t n = head->n, present = (head->phase >> 8) << 16 | (head->phase & 0xFF) << 24;
+    const uint32_t never = head->phase == 1 ? ~1u : ~0x101u;
     uint64_t values = 0, statuses = 0;
-    uint32_t blanks = 0;
     size_t i;
-    others->phase = others->own_ahead = others->differ = 0;
-    for (i = 0; i < sizeof others->newest; i++)
-        others->newest[i] = 0;
     for (i = 0; i < count; i++) {
         const uint8_t *ballot = list + i * BALLOT_BYTES;
         const uint32_t sender = ballot[0], code = low_first(ballot + 1) ^ present;
-        const uint32_t value = code & 3, status = code >> 8, blank = value >> 1;
         if (code > 0xFFFF) {
             if (!look_up(head, list, i, others))
                 return 0;
             continue;
         }
-        if ((sender >= n) | ((code & ~0x103u) != 0) | !(allowed >> ((2 * value + status) & 31) & 1))
+        if (sender >= n || (code & never) != 0)
             return 0;
-        values |= (uint64_t)(1 ^ blank) << (sender | (value & 1) << 5);
-        statuses |= (uint64_t)1 << (sender | status << 5);
-        blanks |= blank << sender;
+        values |= (uint64_t)1 << (sender | (code & 1) << 5);
+        statuses |= (uint64_t)1 << (sender | (code >> 8) << 5);
     }
-    *said = (struct said){ (uint32_t)values, (uint32_t)(values >> 32), blanks, (uint32_t)statuses,
-                           (uint32_t)(statuses >> 32) };
+    *said = (struct said){ values, statuses, 0 };
     return 1;
 }
 
-/* A ballot of another phase: against its sender's earlier ones, then towards the highest phase. */
+static int read_even(const struct quick_head *head, const uint8_t *list, size_t count,
+                     struct said *said, struct others *others)
+{
+    const uint32_t n = head->n, present = (head->phase >> 8) << 16 | (head->phase & 0xFF) << 24;
+    const uint32_t never = head->phase == 2 ? ~3u : ~0x103u;
+    uint64_t values = 0, statuses = 0;
+    uint32_t blanks = 0, broken = 0;
+    size_t i;
+    for (i = 0; i < count; i++) {
+        const uint8_t *ballot = list + i * BALLOT_BYTES;
+        const uint32_t sender = ballot[0], code = low_first(ballot + 1) ^ present;
+        const uint32_t blank = code >> 1 & 1;
+        if (code > 0xFFFF) {
+            if (!look_up(head, list, i, others))
+                return 0;
+            continue;
+        }
+        if (sender >= n || (code & never) != 0)
+            return 0;
+        broken |= code >> 1 & (code | code >> 8); /* a blank with another bit: 3, or decided */
+        values |= (uint64_t)(1 ^ blank) << (sender | (code & 1) << 5);
+        statuses |= (uint64_t)1 << (sender | (code >> 8) << 5);
+        blanks |= blank << sender;
+    }
+    *said = (struct said){ values, statuses, blanks };
+    return (broken & 1) == 0;
+}
+
+/* A ballot of another phase: against the one of its sender and phase, then towards the highest. */
 APART static int look_up(const struct quick_head *head, const uint8_t *list, size_t i,
                          struct others *others)
 {
     const uint8_t *ballot = list + i * BALLOT_BYTES;
     const uint32_t sender = ballot[0], state = low_first(ballot + 1);
     const uint32_t phase = (uint32_t)ballot[3] << 8 | ballot[4];
-    uint32_t earlier;
+    uint32_t at = (sender * 37 + phase * 5) % SLOTS;
     if (sender >= head->n || ballot[1] > BLANK || ballot[2] > DECIDED
         || !(allowed_at(phase) >> (2 * ballot[1] + ballot[2]) & 1))
         return 0;
-    for (earlier = others->newest[sender]; earlier != 0; earlier = others->before[earlier - 1]) {
-        const uint32_t unlike = low_first(list + (earlier - 1) * BALLOT_BYTES + 1) ^ state;
-        if (unlike > 0xFFFF)
-            continue;
-        others->differ |= unlike;
-        return 1;
+    if (!others->used) {
+        others->used = 1;
+        __builtin_memset(others->slot, 0, sizeof others->slot);
     }
-    others->before[i] = others->newest[sender];
-    others->newest[sender] = (uint8_t)(i + 1);
+    for (; others->slot[at] != 0; at = (at + 1) % SLOTS) {
+        const uint8_t *earlier = list + (others->slot[at] - 1) * BALLOT_BYTES;
+        const uint32_t unlike = low_first(earlier + 1) ^ state;
+        if (earlier[0] == sender && unlike <= 0xFFFF) {
+            others->differ |= unlike;
+            return 1;
+        }
+    }
+    others->slot[at] = (uint8_t)(i + 1);
     if (phase > head->phase) {
         others->own_ahead |= sender == head->own;
         follow(ballot, phase, others);
@@ -148,7 +171,9 @@ APART static int look_up(const struct quick_head *head, const uint8_t *list, siz
 /* The four bytes after the sender, as one number: equal phases give equal upper halves. */
 static uint32_t low_first(const uint8_t *at)
 {
-    return (uint32_t)at[3] << 24 | (uint32_t)at[2] << 16 | (uint32_t)at[1] << 8 | at[0];
+    uint32_t word;
+    __builtin_memcpy(&word, at, sizeof word);
+    return word;
 }
 
 /* Step 2: the highest phase, its sets, and the state that its lowest sender gives. */
@@ -167,25 +192,39 @@ static void follow(const uint8_t *ballot, uint32_t phase, struct others *others)
         others->leader_value = ballot[1];
         others->leader_status = ballot[2];
     }
-    others->zeros |= ballot[1] == ZERO ? bit : 0;
-    others->ones |= ballot[1] == ONE ? bit : 0;
-    others->blanks |= ballot[1] == BLANK ? bit : 0;
+    if (ballot[1] == ZERO)
+        others->zeros |= bit;
+    else if (ballot[1] == ONE)
+        others->ones |= bit;
+    else
+        others->blanks |= bit;
 }
 
-/* Numbers 7 and 8. At the head's phase a sender that says two things stands in two sets. */
-static uint32_t clash(const struct quick_head *head, const struct said *said,
-                      const struct others *others)
+/* Numbers 7 and 8, and steps 1 and 2. At the head's phase a sender that says two things stands in
+ * two sets. */
+static uint32_t hear(struct quick_head *head, const struct said *said, const struct others *others)
 {
-    const uint32_t own = (uint32_t)1 << head->own;
-    const uint32_t other_value = (head->value == ZERO ? 0 : said->zeros)
-        | (head->value == ONE ? 0 : said->ones) | (head->value == BLANK ? 0 : said->blanks);
-    const uint32_t other_status = head->status == DECIDED ? said->undecided : said->decided;
-    const uint32_t zeros = head->zeros | said->zeros, ones = head->ones | said->ones;
-    const uint32_t blanks = head->blanks | said->blanks;
-    if (others->own_ahead | ((other_value | other_status) & own))
+    const uint32_t zeros = (uint32_t)said->values, ones = (uint32_t)(said->values >> 32);
+    const uint32_t undecided = (uint32_t)said->statuses, decided = (uint32_t)(said->statuses >> 32);
+    const uint32_t other_value = head->value == ZERO ? ones | said->blanks
+        : head->value == ONE                         ? zeros | said->blanks
+                                                     : zeros | ones;
+    const uint32_t other = other_value | (head->status == DECIDED ? undecided : decided);
+    if (others->own_ahead | (other >> head->own & 1))
         return 7;
-    if (others->differ | EACH_WAY(zeros, ones, blanks) | (said->undecided & said->decided))
+    head->zeros |= zeros;
+    head->ones |= ones;
+    head->blanks |= said->blanks;
+    if (others->differ | EACH_WAY(head->zeros, head->ones, head->blanks) | (undecided & decided))
         return 8;
+    if (others->phase > head->phase) {
+        head->phase = others->phase;
+        head->value = others->leader_value;
+        head->status = others->leader_status;
+        head->zeros = others->zeros;
+        head->ones = others->ones;
+        head->blanks = others->blanks;
+    }
     return 0;
 }
 
@@ -278,15 +317,13 @@ void quick_write_ballot(const struct quick_head *head, uint8_t *ballot)
 
 static uint32_t word_at(const uint8_t *at)
 {
-    return (uint32_t)at[0] << 24 | (uint32_t)at[1] << 16 | (uint32_t)at[2] << 8 | at[3];
+    return __builtin_bswap32(low_first(at));
 }
 
 static void put_word(uint8_t *at, uint32_t word)
 {
-    at[0] = (uint8_t)(word >> 24);
-    at[1] = (uint8_t)(word >> 16);
-    at[2] = (uint8_t)(word >> 8);
-    at[3] = (uint8_t)word;
+    word = __builtin_bswap32(word);
+    __builtin_memcpy(at, &word, sizeof word);
 }
 
 /* 0 where the record has another length or a byte outside the codes. */

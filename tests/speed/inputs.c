@@ -1,6 +1,7 @@
 /*
- * The lists are such as the radio brings: different senders at the present phase, in number order;
- * to reach 64 ballots each comes twice, or late ballots or ballots from ahead stand beside them.
+ * Most lists are such as the radio brings: different senders at the present phase, in number order;
+ * to reach 64 ballots each comes twice, or late ballots or ballots from ahead stand beside them. Two
+ * come from a vote with losses, and some are made to take long.
  */
 #include "inputs.h"
 
@@ -115,11 +116,74 @@ static void make_refused(void)
     add_senders(input, 0, HEADS, 4);
 }
 
+/* Two lists of a vote of 32 heads that the adversary of tests/independent made with seed 1: the
+ * ninth vote, ticks 13 and 15, counted from 0. They came as they stand here, repeats and all. */
+static const uint8_t ahead_record[RECORD_BYTES] = { 32, 25, 0, 1, 1, 0, 2, 0, 0, 0, 0, 0, 0, 0, 0, 0, 0, 0, 0, 0 };
+static const uint8_t ahead_list[] = {
+    24, 1, 0, 0, 1, 16, 1, 0, 0, 1, 21, 0, 0, 0, 1, 4, 2, 0, 0, 2, 17, 2, 0, 0, 2,
+    27, 0, 0, 0, 1, 19, 0, 0, 0, 1, 1, 2, 0, 0, 2, 23, 1, 0, 0, 1, 25, 1, 0, 0, 1, 5, 1, 0, 0, 1,
+    29, 1, 0, 0, 2, 11, 1, 0, 0, 2, 30, 0, 0, 0, 1, 13, 1, 0, 0, 2, 8, 1, 0, 0, 1, 0, 0, 0, 0, 1,
+    7, 1, 0, 0, 1, 2, 1, 0, 0, 1, 3, 1, 0, 0, 1, 22, 2, 0, 0, 2, 12, 1, 0, 0, 1, 26, 2, 0, 0, 2,
+    18, 2, 0, 0, 2, 9, 0, 0, 0, 1,
+};
+static const uint8_t repeats_record[RECORD_BYTES] = { 32, 4, 0, 2, 2, 0, 2, 0, 0, 0, 0, 0, 0, 0, 0, 0, 0, 0, 0, 0 };
+static const uint8_t repeats_list[] = {
+    5, 2, 0, 0, 2, 22, 2, 0, 0, 2, 20, 0, 0, 0, 1, 21, 0, 0, 0, 1, 20, 0, 0, 0, 1,
+    20, 0, 0, 0, 1, 24, 1, 0, 0, 1, 15, 2, 0, 0, 2, 26, 2, 0, 0, 2, 9, 0, 0, 0, 1,
+    23, 1, 0, 0, 1, 27, 0, 0, 0, 1, 7, 1, 0, 0, 1, 27, 0, 0, 0, 1, 25, 2, 0, 0, 2, 6, 0, 0, 0, 1,
+    25, 2, 0, 0, 2, 12, 1, 0, 0, 1, 13, 1, 0, 0, 2, 17, 2, 0, 0, 2, 20, 0, 0, 0, 1,
+    10, 0, 0, 0, 1, 21, 0, 0, 0, 1, 10, 0, 0, 0, 1, 31, 0, 0, 0, 1, 24, 1, 0, 0, 1,
+    1, 2, 0, 0, 2, 14, 1, 0, 0, 2, 29, 1, 0, 0, 2, 12, 1, 0, 0, 1, 11, 1, 0, 0, 2,
+    26, 2, 0, 0, 2, 30, 0, 0, 0, 1, 29, 1, 0, 0, 2, 2, 1, 0, 0, 1, 19, 0, 0, 0, 1,
+    28, 2, 0, 0, 2, 6, 0, 0, 0, 1, 31, 0, 0, 0, 1, 13, 1, 0, 0, 2, 10, 0, 0, 0, 1,
+    10, 0, 0, 0, 1, 25, 2, 0, 0, 2, 27, 0, 0, 0, 1, 2, 1, 0, 0, 1, 26, 2, 0, 0, 2,
+    23, 1, 0, 0, 1, 1, 2, 0, 0, 2,
+};
+
+static void take(const char *name, const uint8_t *record, const uint8_t *list, size_t length)
+{
+    struct input *input = begin(name, 0, 1);
+    __builtin_memcpy(input->record, record, RECORD_BYTES);
+    __builtin_memcpy(input->list, list, length);
+    input->length = length;
+    input->coin = 1;
+}
+
+static void make_lossy(void)
+{
+    take("lossy: 25 ballots, 9 from ahead", ahead_record, ahead_list, sizeof ahead_list);
+    take("lossy: 48 ballots, 29 late, repeats", repeats_record, repeats_list, sizeof repeats_list);
+}
+
+/* Lists that take a look longest. */
+static void make_hostile(void)
+{
+    struct input *input = begin("64 ballots of one sender, falling", 0, 99);
+    uint32_t phase, sender;
+    for (phase = 98; phase > 34; phase--)
+        add(input, 1, ONE, UNDECIDED, phase);
+    input = begin("64 ballots, two late phases", 0, 6);
+    add_senders(input, 0, HEADS, 3);
+    add_senders(input, 0, HEADS, 4);
+    input = begin("64 ballots, present and late in turn", 0, 4);
+    for (sender = 0; sender < HEADS; sender++) {
+        add_senders(input, sender, sender + 1, 4);
+        add_senders(input, sender, sender + 1, 3);
+    }
+    input = begin("refused 8, the second of 64", 8, 1);
+    add_senders(input, 1, 2, 1);
+    add(input, 1, ZERO, UNDECIDED, 1);
+    add_senders(input, 0, HEADS, 1);
+    add_senders(input, 2, HEADS, 1);
+}
+
 size_t make_inputs(void)
 {
     made = 0;
     make_accepted();
     make_decided();
     make_refused();
+    make_lossy();
+    make_hostile();
     return made;
 }

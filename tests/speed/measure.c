@@ -6,6 +6,9 @@
  * and the medians are taken. A sample is the processor's time for many calls on end; each call of a
  * tick puts the record back first, which is in the figures of both.
  * Status 1 where the two differ; no time is ever a failure.
+ *
+ * For tests/speed/count: the word `names` prints the rows, and the words ROW ENGINE TIMES, ENGINE
+ * being `ours` or `C`, make that many calls and print nothing.
  */
 #include "engine.h"
 #include "inputs.h"
@@ -13,6 +16,7 @@
 #include "vote.h"
 
 int printf(const char *format, ...);
+int atoi(const char *digits);
 int memcmp(const void *a, const void *b, size_t length);
 struct time {
     long seconds, nanoseconds;
@@ -42,7 +46,8 @@ static volatile uint32_t answer;
 
 static double now(void);
 static void measure(const char *name, work *work, const void *with);
-static void measure_growth(void);
+struct row;
+static void measure_growth(const struct row *of_sizes);
 
 /* ---- Ticks */
 
@@ -157,18 +162,50 @@ static int all_same(size_t count)
     return same & same_rounds(8) & same_rounds(16) & same_rounds(32);
 }
 
-int main(void)
+/* What is measured, in the order that it is printed in. */
+struct row {
+    const char *name;
+    work *work;
+    const void *with;
+};
+
+static const uint32_t sizes[3] = { 8, 16, 32 };
+static struct row rows[INPUTS_MOST + 5];
+
+static size_t make_rows(size_t count)
 {
-    const size_t count = make_inputs();
+    static const char *const names[3] = { "16 rounds of 8 heads", "16 rounds of 16 heads",
+                                          "16 rounds of 32 heads" };
+    size_t i, made = 0;
+    for (i = 0; i < count; i++)
+        rows[made++] = (struct row){ inputs[i].name, tick, &inputs[i] };
+    rows[made++] = (struct row){ "start", start, NULL };
+    rows[made++] = (struct row){ "ballot", ballot, &inputs[0] };
+    for (i = 0; i < 3; i++)
+        rows[made++] = (struct row){ names[i], vote, &sizes[i] };
+    return made;
+}
+
+int main(int argc, char **argv)
+{
+    const size_t count = make_inputs(), made = make_rows(count);
     size_t i;
+    if (argc == 4) {
+        const struct row *row = &rows[atoi(argv[1])];
+        row->work(argv[2][0] == 'o' ? &ours : &quick, row->with, atoi(argv[3]));
+        return 0;
+    }
+    if (argc == 2) {
+        for (i = 0; i < made; i++)
+            printf("%s\n", rows[i].name);
+        return 0;
+    }
     if (!all_same(count))
         return 1;
     printf("%-42s %10s %10s %7s\n", "nanoseconds", "ours", "C", "ratio");
-    for (i = 0; i < count; i++)
-        measure(inputs[i].name, tick, &inputs[i]);
-    measure("start", start, NULL);
-    measure("ballot", ballot, &inputs[0]);
-    measure_growth();
+    for (i = 0; i + 3 < made; i++)
+        measure(rows[i].name, rows[i].work, rows[i].with);
+    measure_growth(rows + made - 3);
     return 0;
 }
 
@@ -215,23 +252,20 @@ static void measure(const char *name, work *work, const void *with)
 }
 
 /* The three sizes alternate too, since their times are divided by each other. */
-static void measure_growth(void)
+static void measure_growth(const struct row *of_sizes)
 {
-    static const uint32_t sizes[3] = { 8, 16, 32 };
-    static const char *const names[3] = { "16 rounds of 8 heads", "16 rounds of 16 heads",
-                                          "16 rounds of 32 heads" };
     static double of_ours[3][SAMPLES], of_quick[3][SAMPLES];
     double a[3], b[3];
     size_t i, size;
     for (i = 0; i < SAMPLES; i++)
         for (size = 0; size < 3; size++) {
-            of_ours[size][i] = sample(vote, &ours, &sizes[size], 1);
-            of_quick[size][i] = sample(vote, &quick, &sizes[size], 1);
+            of_ours[size][i] = sample(vote, &ours, of_sizes[size].with, 1);
+            of_quick[size][i] = sample(vote, &quick, of_sizes[size].with, 1);
         }
     for (size = 0; size < 3; size++) {
         a[size] = median(of_ours[size], SAMPLES);
         b[size] = median(of_quick[size], SAMPLES);
-        print(names[size], a[size], b[size]);
+        print(of_sizes[size].name, a[size], b[size]);
     }
     printf("%-42s %10.1f %10.1f\n", "growth from 8 to 16 heads, times", a[1] / a[0], b[1] / b[0]);
     printf("%-42s %10.1f %10.1f\n", "growth from 16 to 32 heads, times", a[2] / a[1], b[2] / b[1]);

@@ -1,5 +1,5 @@
 -- What a look tells at its end: the number that a list gives, and the head after steps 1 and 2.
-use Prim.Native.Nat.{ℕ, _+_, _*_, _≤_, _<_}
+use Prim.Native.Nat.{ℕ, _^_, _+_, _*_, _≤_, _<_}
 use mathlib.Core.Path.{_≡_, refl, sym, ap, ap₂, fun-ext, _∙_}
 use mathlib.Core.List.{List}
 use mathlib.Core.Bool.{Bool, true, false, cond, _&&_, _||_}
@@ -7,7 +7,8 @@ use mathlib.Core.Logic.{_⊎_, inl, inr}
 use native.Mathlib.Decide.{ℕ-discrete}
 use native.Mathlib.Omega.{arith}
 use lib.Dec.{ltb, eqb, lit<}
-use borrow.Author.Tests.{lt-ltb, le-ltb, ne-eqb}
+use lib.ListN.{length}
+use borrow.Author.Tests.{ltb-true, lt-ltb, le-ltb, ne-eqb}
 use Rattle.rules.specs.declared.Value.{Value}
 use Rattle.rules.specs.declared.Value.the-variants.{Zero, One, Blank}
 use Rattle.rules.specs.declared.Ballot.{Ballot}
@@ -16,12 +17,14 @@ use Rattle.rules.specs.declared.Ticked.{Ticked}
 use Rattle.rules.specs.Number.{firstThatApplies}
 use Rattle.rules.specs.Below.{first, some}
 use Rattle.rules.specs.Ballot.{valueCode, statusCode, sameValue, ballotAt, breaksRule}
-use Rattle.rules.specs.Heard.{member, setOf, says}
+use Rattle.rules.specs.Heard.{member, setOf, heard, says}
 use Rattle.rules.specs.Head.{sound}
 use Rattle.rules.specs.Tick.{ballots, leader, copying, moved, heardWith, added, gathered, ownOtherwise, contradicts}
 use Rattle.rules.proofs.Counting.Truth.{means-same, means-as, means-self, means-or, means-eq, and-never, or-left-false, or-right-false}
 use Rattle.rules.proofs.Counting.Below.{NoneBefore, first-le, first-before, first-holds, some-here, some-not, not-some, means-some}
-use Rattle.rules.proofs.Counting.Sets.{member-none, member-setOf, setOf-lt, setOf-is}
+use Rattle.rules.proofs.Counting.Sets.{member-none, member-setOf, setOf-lt, setOf-is, means-within}
+use Rattle.rules.specs.Given.{Sound}
+use Rattle.rules.proofs.OneTick.Hearing.{none-heard}
 use Rattle.rules.proofs.Meaning.Meanings.{means-sound}
 use Rattle.rules.proofs.OneTick.Leader.{leader-leads}
 use Rattle.rules.proofs.OneTick.Senders.{Moves, stays, copies, moves}
@@ -222,3 +225,18 @@ module _ (h : Head) (l : List ℕ) (look : Look) (is : Looks h l look) (end : lo
 
   pub look-phase : highest h l (ballots l) ≡ look .phase
   look-phase = sees h l (ballots l) look at-end .0
+
+-- ---- no ballots
+
+small : (h : Head) → Sound h → (v : Value) → heard h v < 2 ^ 32
+small h a v = ltb-true (heard h v) (2 ^ 32) (means-within 32 (heard h v) .1 (λ s m. omega (arith, a .members v s m, a .heads .1)))
+
+pub empty-heard : (h : Head) (l : List ℕ) → Sound h → length l ≡ 0 → h ≡ gathered h l
+unfolding gathered added heardWith
+empty-heard h l a e =
+    simp (← moved-not h l (highest-within h l (ballots l) (h .phase) (omega arith) (λ j b. absurd (omega arith))), ← same Zero, ← same One, ← same Blank)
+  where
+    same : (v : Value) → heard h v ≡ setOf 32 (λ s. member s (heard h v) || some (ballots l) (λ i. says (h .phase) v s (ballotAt l i)))
+    same v =
+        none-heard (heard h v) (λ s i. says (h .phase) v s (ballotAt l i)) (small h a v)
+        ∙ ap (λ (k : ℕ). setOf 32 (λ s. member s (heard h v) || some k (λ i. says (h .phase) v s (ballotAt l i)))) (omega arith)

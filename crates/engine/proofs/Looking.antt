@@ -18,7 +18,7 @@ use Rattle.rules.proofs.Counting.Below.{NoneBefore, some-here, some-not, search
 use Rattle.rules.proofs.Counting.Truth.{means-and, means-lt, means-eq}
 use Rattle.rules.proofs.Counting.Sets.{member-setOf}
 use Rattle.engine.specs.declared.look.Look.{Look}
-use Rattle.engine.specs.Look.{refused, alone, code, highest, isOf, isLate, listedIn, saidIn, lateIn, lookAt, Looks}
+use Rattle.engine.specs.Look.{refused, alone, code, highest, isOf, isLate, listedIn, saidIn, lateIn, lookAt, unlooked, Looks, GoesOn, KnownIn}
 use Rattle.engine.proofs.Growing.{nobody, highest-stays, highest-rises, highest-most, highest-least, listed-grows, said-grows, said-other, late-stays, listed-stays, said-stays, late-grows, listed-begins, said-begins, late-begins}
 
 -- what holds of the numbers below five
@@ -105,7 +105,7 @@ module _ (h : Head) (l : List ℕ) where
                 ∙ said-other l i p k (λ z. n (d ∙ z))
 
     -- who sent an earlier one of a lower phase
-    pub late-known : ballotAt l i .phase < p → (j : ℕ) → j < i → ballotAt l j .phase ≡ ballotAt l i .phase → ballotAt l j .sender < 32 → member (ballotAt l j .sender) elsewhere ≡ true
+    pub late-known : ballotAt l i .phase < p → KnownIn elsewhere l i
     late-known b j m e low =
         ap (member (ballotAt l j .sender)) (s .2)
         ∙ member-setOf 32 _ (ballotAt l j .sender) low
@@ -136,14 +136,14 @@ module _ (h : Head) (l : List ℕ) where
         one : ((j : ℕ) → j < i → ballotAt l j .phase ≤ p) → (k : ℕ) → cond (eqb c k) a 0 ≡ saidIn l (i + 1) (ballotAt l i .phase) k
         one most k = ap (λ (x : ℕ). cond (eqb x k) a 0) d ∙ ap (λ (x : ℕ). cond (eqb (code (ballotAt l i)) k) x 0) w ∙ said-begins l i p (ballotAt l i .phase) most b refl k
 
-  -- a look that ends at i, of which a stage says when the next ballot is refused
-  pub look-ends : (Stuck : Look → Type 0) (from i p listed elsewhere : ℕ) (said : List ℕ) (look : Look) → look ≡ lookWith i p listed elsewhere said
-      → from ≤ i → i ≤ ballots l → NoneBefore i (refused h l) → Sees h l i p listed elsewhere said → Stuck (lookWith i p listed elsewhere said)
-      → Looks h l look × (from ≤ look .next) × Stuck look
-  look-ends Stuck from i p listed elsewhere said look e a b none s t =
-      subst (λ (x : Look). Looks h l x × (from ≤ x .next) × Stuck x) (sym e) ((b, none, seen i p listed elsewhere said s), a, t)
+  -- a look that goes on to index i
+  pub goes-on : (R : ℕ → ℕ → Type 0) (from : Look) (i p listed elsewhere : ℕ) (said : List ℕ) (look : Look) → look ≡ lookWith i p listed elsewhere said
+      → from .next ≤ i → i ≤ ballots l → NoneBefore i (refused h l) → Sees h l i p listed elsewhere said → (i < ballots l → R (ballotAt l i .phase) p → refused h l i ≡ true)
+      → GoesOn h l R from look
+  goes-on R from i p listed elsewhere said look e a b none s t =
+      subst (GoesOn h l R from) (sym e) ((b, none, seen i p listed elsewhere said s), a, t)
 
-  pub looks-start : (look : Look) → look ≡ lookWith 0 (h .phase) 0 0 (0 ∷ 0 ∷ 0 ∷ 0 ∷ 0 ∷ []) → Looks h l look
+  pub looks-start : (look : Look) → look ≡ unlooked h → Looks h l look
   looks-start look e = subst (Looks h l) (sym e) (omega arith, search-starts (refused h l), look-starts)
 
   -- a stage's word on the ballot that follows, by the highest phase before it
@@ -154,20 +154,23 @@ module _ (h : Head) (l : List ℕ) where
       ∙ f (omega arith) (subst (Rel (ballotAt l (x .next) .phase)) (sees (x .next) x is .0) (subst (λ (m : ℕ). Rel (ballotAt l m .phase) (highest h l m)) (sym e) r))
 
   -- a turn in which no stage takes a ballot has come to the first that is refused
-  pub turn-ends : (from : ℕ) (a b c : Look) → from < ballots l → Looks h l a → Looks h l b → Looks h l c → from ≤ a .next → a .next ≤ b .next → b .next ≤ c .next → c .next ≡ from
-      → (a .next < ballots l → ballotAt l (a .next) .phase ≡ a .phase → refused h l (a .next) ≡ true)
-      → (b .next < ballots l → ballotAt l (b .next) .phase < b .phase → refused h l (b .next) ≡ true)
-      → (c .next < ballots l → c .next ≡ b .next → c .phase < ballotAt l (c .next) .phase → refused h l (c .next) ≡ true)
+  pub turn-ends : (look a b c : Look) → look .next < ballots l → GoesOn h l (λ p q. p ≡ q) look a → GoesOn h l (λ p q. p < q) a b → GoesOn h l (λ p q. (c .next ≡ b .next) × (q < p)) b c → c .next ≡ look .next
       → c ≡ lookAt h l (first (ballots l) (refused h l))
-  turn-ends from a b c m la lb lc x y z e fa fb fc = lc .2 ∙ ap (lookAt h l) (search-finds (ballots l) (c .next) (refused h l) (lc .1) next (omega arith))
+  turn-ends look a b c m ga gb gc e = gc .0 .2 ∙ ap (lookAt h l) (search-finds (ballots l) (c .next) (refused h l) (gc .0 .1) next (omega arith))
     where
+      same-a : a .next ≡ c .next
+      same-a = omega (arith, ga .1, gb .1, gc .1)
+
+      same-b : b .next ≡ c .next
+      same-b = omega (arith, ga .1, gb .1, gc .1)
+
       next : refused h l (c .next) ≡ true
       next = go (decLt (ballotAt l (c .next) .phase) (highest h l (c .next))) (decLt (highest h l (c .next)) (ballotAt l (c .next) .phase))
         where
           go : Dec (ballotAt l (c .next) .phase < highest h l (c .next)) → Dec (highest h l (c .next) < ballotAt l (c .next) .phase) → refused h l (c .next) ≡ true
-          go (yes q) d = stuck-at (λ p r. p < r) b (c .next) (lb .2) (omega arith) fb (omega arith) q
-          go (no q) (yes r) = stuck-at (λ p r. r < p) c (c .next) (lc .2) refl (λ i. fc i (omega arith)) (omega arith) r
-          go (no q) (no r) = stuck-at (λ p r. p ≡ r) a (c .next) (la .2) (omega arith) fa (omega arith) (omega arith)
+          go (yes q) d = stuck-at (λ p r. p < r) b (c .next) (gb .0 .2) same-b (gb .2) (omega arith) q
+          go (no q) (yes r) = stuck-at (λ p r. r < p) c (c .next) (gc .0 .2) refl (λ i u. gc .2 i (sym same-b, u)) (omega arith) r
+          go (no q) (no r) = stuck-at (λ p r. p ≡ r) a (c .next) (ga .0 .2) same-a (ga .2) (omega arith) (omega arith)
 
   pub list-ends : (look : Look) → Looks h l look → ballots l ≤ look .next → look ≡ lookAt h l (first (ballots l) (refused h l))
   list-ends look is b = is .2 ∙ ap (lookAt h l) (search-ends (ballots l) (look .next) (refused h l) (is .1) (is .0) b)

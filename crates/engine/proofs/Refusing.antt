@@ -25,7 +25,7 @@ use Rattle.rules.proofs.Counting.Below.{NoneBefore, some-not, not-some, means-s
 use Rattle.rules.proofs.Counting.Sets.{member-setOf}
 use Rattle.rules.proofs.Meaning.Meanings.{value-back, status-back}
 use Rattle.rules.proofs.Meaning.Accepted.{value-code-back, status-code-back}
-use Rattle.engine.specs.Look.{refused, code, codeAt, statusesOf, codesOf, ballotBy, barredFrom, highest, isOf, isSaid, listedIn, saidIn, Fits}
+use Rattle.engine.specs.Look.{refused, code, codeAt, isWithin, KnownIn, statusesOf, codesOf, ballotBy, barredFrom, highest, isOf, isSaid, listedIn, saidIn, Fits}
 use Rattle.engine.proofs.Bounds.{two-bounds}
 use Rattle.engine.proofs.Growing.{highest-most, highest-least}
 
@@ -33,7 +33,7 @@ use Rattle.engine.proofs.Growing.{highest-most, highest-least}
 
 -- the two bounds of its phase tell
 pub breaks-bounds : (n : ℕ) (l : List ℕ) (i p codes statuses : ℕ) → ballotAt l i .phase ≡ p → codes ≡ codesOf (classOf p) → statuses ≡ statusesOf (classOf p)
-    → breaksRule n l i ≡ not (ltb (getD l (i * 5) 0) n && (ltb (getD l (i * 5 + 2) 0) statuses && ltb (codeAt l i) codes))
+    → breaksRule n l i ≡ not (isWithin n codes statuses l i)
 unfolding breaksRule obeys ballotAt
 breaks-bounds n l i p codes statuses e c t =
     ap (λ (b : Bool). not (ltb (getD l (i * 5) 0) n && b))
@@ -55,7 +55,7 @@ few-codes Odd = omega arith
 few-codes Even = omega arith
 
 module _ (n : ℕ) (l : List ℕ) (i : ℕ) (stands : breaksRule n l i ≡ false) where
-  bounds : ltb (getD l (i * 5) 0) n && (ltb (getD l (i * 5 + 2) 0) (statusesOf (classOf (ballotAt l i .phase))) && ltb (codeAt l i) (codesOf (classOf (ballotAt l i .phase)))) ≡ true
+  bounds : isWithin n (codesOf (classOf (ballotAt l i .phase))) (statusesOf (classOf (ballotAt l i .phase))) l i ≡ true
   bounds = not-false _ (sym (breaks-bounds n l i (ballotAt l i .phase) (codesOf (classOf (ballotAt l i .phase))) (statusesOf (classOf (ballotAt l i .phase))) refl refl refl) ∙ stands)
 
   pub low-sender : ballotAt l i .sender < n
@@ -106,6 +106,10 @@ unfolding differ
 means-differ a b =
     means-as (λ r. ((r .1 .0, r .0), r .1 .1)) (λ r. (r .0 .1, (r .0 .0, r .1)))
     (means-and (means-eq (a .sender) (b .sender)) (means-and (means-eq (a .phase) (b .phase)) (means-not (means-state a b))))
+
+pub differ-state : (a b : Ballot) → a .sender ≡ b .sender → a .phase ≡ b .phase → not (sameState a b) ≡ differ a b
+unfolding differ
+differ-state a b e q = sym (simp (eq-eqb (a .sender) (b .sender) e, eq-eqb (a .phase) (b .phase) q))
 
 half : (v t : ℕ) → t < 2 → (v * 2 + t) / 2 ≡ v
 half v t b = omega arith
@@ -158,7 +162,7 @@ module _ (h : Head) (l : List ℕ) (i : ℕ) where
 
   -- the test of the hot loop: of the phase, and within its bounds
   module _ (p x codes statuses : ℕ) (t : Bool) (phase : x ≡ ballotAt l i .phase) (c : codes ≡ codesOf (classOf p)) (d : statuses ≡ statusesOf (classOf p))
-      (test : t ≡ ltb (getD l (i * 5) 0) (h .n) && (ltb (getD l (i * 5 + 2) 0) statuses && ltb (codeAt l i) codes)) where
+      (test : t ≡ isWithin (h .n) codes statuses l i) where
     pub test-passed : not (eqb x p && t) ≡ false → (ballotAt l i .phase ≡ p) × (breaksRule (h .n) l i ≡ false)
     test-passed e =
         let both = not-false _ e in
@@ -184,7 +188,7 @@ module _ (h : Head) (l : List ℕ) (i : ℕ) where
       turn false o k = refl
 
   -- at a phase at which the sender has sent nothing yet
-  pub not-earlier : (elsewhere : ℕ) → Fits h → breaksRule (h .n) l i ≡ false → ((j : ℕ) → j < i → ballotAt l j .phase ≡ ballotAt l i .phase → ballotAt l j .sender < 32 → member (ballotAt l j .sender) elsewhere ≡ true)
+  pub not-earlier : (elsewhere : ℕ) → Fits h → breaksRule (h .n) l i ≡ false → KnownIn elsewhere l i
       → member (ballotAt l i .sender) elsewhere ≡ false → earlier ≡ false
   not-earlier elsewhere f e known absent =
       some-not i (λ j. differ (ballotAt l j) (ballotAt l i))

@@ -1,9 +1,9 @@
--- What the functions of `engine` hand to one another: a tick's answer in two parts, and what one look at a list of ballots
--- shows.
+-- What the functions of `engine` hand to one another: a tick's answer in two parts, and what one look at a list of
+-- ballots shows.
 use Prim.Native.Nat.{ℕ, zero, suc, _+_, _*_, _/_, _%_, _≤_, _<_}
 use mathlib.Core.Path.{_≡_}
 use mathlib.Core.List.{List, [], _∷_}
-use mathlib.Core.Bool.{Bool, false, cond, _&&_, _||_}
+use mathlib.Core.Bool.{Bool, true, false, cond, _&&_, _||_}
 use lib.Dec.{ltb, eqb}
 use lib.ListN.{getD}
 use Rattle.rules.specs.declared.Ballot.{Ballot}
@@ -70,6 +70,11 @@ codesOf Second = 5
 codesOf Odd = 4
 codesOf Even = 5
 
+-- the ballot at index i is within the bounds
+abbrev pub isWithin : ℕ → ℕ → ℕ → List ℕ → ℕ → Bool
+isWithin n codes statuses l i =
+    ltb (getD l (i * 5) 0) n && (ltb (getD l (i * 5 + 2) 0) statuses && ltb (codeAt l i) codes)
+
 -- the ballot of head s at phase p with that value and status
 abbrev pub ballotBy : ℕ → ℕ → ℕ → Ballot
 ballotBy s c p = record { sender = s; value = valueOf (c / 2); status = statusOf (c % 2); phase = p }
@@ -126,14 +131,59 @@ lookAt h l k =
       blanks = saidIn l k (highest h l k) 4;
     }
 
+-- before the first ballot; and a look that has gone on to index k, with more senders at its phase or at lower ones
+abbrev pub unlooked : Head → Look
+unlooked h =
+    record { next = 0; phase = h .phase; listed = 0; elsewhere = 0; zeros = 0; «zeros_decided» = 0; ones = 0; «ones_decided» = 0; blanks = 0 }
+
+abbrev pub withSaid : Look → ℕ → ℕ → List ℕ → Look
+withSaid look k listed said =
+    record {
+      next = k;
+      phase = look .phase;
+      listed = listed;
+      elsewhere = look .elsewhere;
+      zeros = getD said 0 0;
+      «zeros_decided» = getD said 1 0;
+      ones = getD said 2 0;
+      «ones_decided» = getD said 3 0;
+      blanks = getD said 4 0;
+    }
+
+abbrev pub withElsewhere : Look → ℕ → ℕ → Look
+withElsewhere look k elsewhere =
+    record {
+      next = k;
+      phase = look .phase;
+      listed = look .listed;
+      elsewhere = elsewhere;
+      zeros = look .zeros;
+      «zeros_decided» = look .«zeros_decided»;
+      ones = look .ones;
+      «ones_decided» = look .«ones_decided»;
+      blanks = look .blanks;
+    }
+
+-- numbers of heads that fit into a set
+abbrev pub Fits : Head → Type 0
+Fits h = (h .n ≤ 32) × (h .own < 32)
+
 -- a look at ballots of which none is refused
 abbrev pub Looks : Head → List ℕ → Look → Type 0
 Looks h l look =
     (look .next ≤ ballots l) × ((j : ℕ) → j < look .next → refused h l j ≡ false) × (look ≡ lookAt h l (look .next))
 
--- numbers of heads that fit into a set
-abbrev pub Fits : Head → Type 0
-Fits h = (h .n ≤ 32) × (h .own < 32)
+-- one that goes on from another to a ballot that is refused, if its phase is R to the look's
+abbrev pub GoesOn : Head → List ℕ → (ℕ → ℕ → Type 0) → Look → Look → Type 0
+GoesOn h l R from look =
+    Looks h l look
+    × (from .next ≤ look .next)
+    × (look .next < ballots l → R (ballotAt l (look .next) .phase) (look .phase) → refused h l (look .next) ≡ true)
+
+-- whoever sent an earlier ballot of the phase of the one at index i is in the set
+abbrev pub KnownIn : ℕ → List ℕ → ℕ → Type 0
+KnownIn set l i =
+    (j : ℕ) → j < i → ballotAt l j .phase ≡ ballotAt l i .phase → ballotAt l j .sender < 32 → member (ballotAt l j .sender) set ≡ true
 
 -- the head with those that were seen at its phase; nobody is decided with a blank
 abbrev pub shown : Head → Look → Head

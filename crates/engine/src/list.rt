@@ -10,6 +10,8 @@ use crate::ballot::breaks_rule;
 use crate::head::own_ballot;
 use crate::head::stands_under;
 use crate::head::stated;
+use crate::said::phase_at;
+use crate::said::sender_at;
 use codes::BALLOT_BYTES;
 use codes::ballot_at;
 use codes::status_code;
@@ -69,17 +71,16 @@ fn leading(ballots: &[u8], i: usize, best: usize) -> usize
     requires { ⌜ (i < ballotsOf (now ballots)) × (best < ballotsOf (now ballots)) ⌝ }
     ensures { λ r. ⌜ r ≡ cond (aheadOf (ballotAt (now (ballots .entry)) i) (ballotAt (now (ballots .entry)) best)) i best ⌝ }
 {
-    if ahead(ballot_at(ballots, i), ballot_at(ballots, best)) {
-        i
-    } else {
-        best
-    }
+    if ahead(ballots, i, best) { i } else { best }
 }
 
-fn ahead(a: Ballot, b: Ballot) -> bool
-    ensures { λ r. ⌜ r ≡ aheadOf a b ⌝ }
+fn ahead(ballots: &[u8], i: usize, best: usize) -> bool
+    requires { ⌜ (i < ballotsOf (now ballots)) × (best < ballotsOf (now ballots)) ⌝ }
+    ensures { λ r. ⌜ r ≡ aheadOf (ballotAt (now (ballots .entry)) i) (ballotAt (now (ballots .entry)) best) ⌝ }
 {
-    (b.phase < a.phase) | ((a.phase == b.phase) & (a.sender < b.sender))
+    let phase = phase_at(ballots, i);
+    let highest = phase_at(ballots, best);
+    (highest < phase) | ((phase == highest) & (sender_at(ballots, i) < sender_at(ballots, best)))
 }
 
 pub(crate) fn copying(head: Head, ballot: Ballot) -> Head
@@ -109,10 +110,9 @@ pub(crate) fn first_differing(ballots: &[u8], i: usize) -> usize
     requires { ⌜ i < ballotsOf (now ballots) ⌝ }
     ensures { λ r. ⌜ r ≡ first i (λ j. differOf (ballotAt (now (ballots .entry)) j) (ballotAt (now (ballots .entry)) i)) ⌝ }
 {
-    let ballot = ballot_at(ballots, i);
     let mut j: usize = 0;
     while j < i {
-        if differ(ballot_at(ballots, j), ballot) {
+        if differ(ballots, j, i) {
             return j;
         }
         j += 1;
@@ -120,14 +120,18 @@ pub(crate) fn first_differing(ballots: &[u8], i: usize) -> usize
     j
 }
 
-fn differ(a: Ballot, b: Ballot) -> bool
-    ensures { λ r. ⌜ r ≡ differOf a b ⌝ }
+// Whether the ballots at two indexes differ. Most are of two senders or phases, and not read further.
+fn differ(ballots: &[u8], j: usize, i: usize) -> bool
+    requires { ⌜ (j < ballotsOf (now ballots)) × (i < ballotsOf (now ballots)) ⌝ }
+    ensures { λ r. ⌜ r ≡ differOf (ballotAt (now (ballots .entry)) j) (ballotAt (now (ballots .entry)) i) ⌝ }
 {
-    if a.sender == b.sender {
-        (a.phase == b.phase) & !same_state(a, b)
-    } else {
-        false
+    if sender_at(ballots, j) != sender_at(ballots, i) {
+        return false;
     }
+    if phase_at(ballots, j) != phase_at(ballots, i) {
+        return false;
+    }
+    !same_state(ballot_at(ballots, j), ballot_at(ballots, i))
 }
 
 // Whether the ballot at index i is unlike the head under its own number, or unlike what is held.
@@ -135,10 +139,10 @@ pub(crate) fn otherwise(head: Head, ballots: &[u8], i: usize) -> bool
     requires { ⌜ i < ballotsOf (now ballots) ⌝ }
     ensures { λ r. ⌜ r ≡ ownOtherwise head (ballotAt (now (ballots .entry)) i) || heldOtherwise head (ballotAt (now (ballots .entry)) i) ⌝ }
 {
-    let ballot = ballot_at(ballots, i);
-    if ballot.phase < head.phase {
+    if phase_at(ballots, i) < head.phase {
         return false;
     }
+    let ballot = ballot_at(ballots, i);
     own_otherwise(head, ballot) | held_otherwise(head, ballot)
 }
 

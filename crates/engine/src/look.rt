@@ -2,14 +2,13 @@
 // thing at a phase in all that was looked at, and sets of senders tell whether the next one differs.
 ghost use mathlib.Core.Path.{_≡_};
 ghost use mathlib.Core.Bool.{true, cond, _&&_, _||_, not};
-ghost use Prim.Native.Nat.{ℕ, _<_, _≤_};
+ghost use Prim.Native.Nat.{_<_};
 ghost use lib.Dec.{eqb};
-ghost use lib.ListN.{getD};
 ghost use Rattle.rules.specs.Below.{first};
 ghost use Rattle.rules.specs.Ballot.{ballotAt, breaksRule};
 ghost use Rattle.rules.specs.Heard.{member as memberOf};
 ghost use Rattle.rules.specs.Tick.{ballots as ballotsOf};
-ghost use Rattle.engine.specs.Look.{refused, lookAt, Looks, Fits};
+ghost use Rattle.engine.specs.Look.{refused, lookAt, unlooked as unlookedOf, withSaid, withElsewhere, Fits, Looks, GoesOn, KnownIn};
 use crate::ballot::breaks_rule;
 use crate::ballot::class;
 use crate::list::first_differing;
@@ -64,7 +63,7 @@ pub(crate) fn looked(head: Head, ballots: &[u8]) -> Look
 }
 
 fn unlooked(head: Head) -> Look
-    ensures { λ r. ⌜ r ≡ record { next = 0; phase = head .phase; listed = 0; elsewhere = 0; zeros = 0; «zeros_decided» = 0; ones = 0; «ones_decided» = 0; blanks = 0 } ⌝ }
+    ensures { λ r. ⌜ r ≡ unlookedOf head ⌝ }
 {
     Look {
         next: 0,
@@ -82,7 +81,7 @@ fn unlooked(head: Head) -> Look
 // With the ballots of the look's phase that come next, up to one of another phase or one refused.
 fn with_present(look: Look, head: Head, ballots: &[u8]) -> Look
     requires { ⌜ Fits head × Looks head (now ballots) look ⌝ }
-    ensures { λ r. ⌜ Looks head (now (ballots .entry)) r × (look .next ≤ r .next) × (r .next < ballotsOf (now (ballots .entry)) → ballotAt (now (ballots .entry)) (r .next) .phase ≡ r .phase → refused head (now (ballots .entry)) (r .next) ≡ true) ⌝ }
+    ensures { λ r. ⌜ GoesOn head (now (ballots .entry)) (λ p q. p ≡ q) look r ⌝ }
 {
     let count = ballots.len() / BALLOT_BYTES;
     let phase = look.phase;
@@ -128,7 +127,7 @@ fn is_refused(barred: u32, listed: u32, said: u32, sender: u8) -> bool
 }
 
 fn with_said(look: Look, next: usize, listed: u32, said: [u32; 5]) -> Look
-    ensures { λ r. ⌜ r ≡ record { next = next; phase = look .phase; listed = listed; elsewhere = look .elsewhere; zeros = getD said 0 0; «zeros_decided» = getD said 1 0; ones = getD said 2 0; «ones_decided» = getD said 3 0; blanks = getD said 4 0 } ⌝ }
+    ensures { λ r. ⌜ r ≡ withSaid look next listed said ⌝ }
 {
     Look {
         next: next,
@@ -146,7 +145,7 @@ fn with_said(look: Look, next: usize, listed: u32, said: [u32; 5]) -> Look
 // With the ballots of lower phases that come next, up to one that is not or one refused.
 fn with_late(look: Look, head: Head, ballots: &[u8]) -> Look
     requires { ⌜ Fits head × Looks head (now ballots) look ⌝ }
-    ensures { λ r. ⌜ Looks head (now (ballots .entry)) r × (look .next ≤ r .next) × (r .next < ballotsOf (now (ballots .entry)) → ballotAt (now (ballots .entry)) (r .next) .phase < r .phase → refused head (now (ballots .entry)) (r .next) ≡ true) ⌝ }
+    ensures { λ r. ⌜ GoesOn head (now (ballots .entry)) (λ p q. p < q) look r ⌝ }
 {
     let count = ballots.len() / BALLOT_BYTES;
     let phase = look.phase;
@@ -168,7 +167,7 @@ fn with_late(look: Look, head: Head, ballots: &[u8]) -> Look
 // Whether a ballot of a lower phase than the look's is refused. Only where its sender has sent another
 // one of a lower phase are the earlier ballots searched.
 fn is_refused_late(elsewhere: u32, head: Head, ballots: &[u8], i: usize) -> bool
-    requires { ⌜ Fits head × (i < ballotsOf (now ballots)) × ((j : ℕ) → j < i → ballotAt (now ballots) j .phase ≡ ballotAt (now ballots) i .phase → ballotAt (now ballots) j .sender < 32 → memberOf (ballotAt (now ballots) j .sender) elsewhere ≡ true) ⌝ }
+    requires { ⌜ Fits head × (i < ballotsOf (now ballots)) × KnownIn elsewhere (now ballots) i ⌝ }
     ensures { λ r. ⌜ r ≡ refused head (now (ballots .entry)) i ⌝ }
 {
     if breaks_rule(head.n as u32, ballots, i) {
@@ -181,7 +180,7 @@ fn is_refused_late(elsewhere: u32, head: Head, ballots: &[u8], i: usize) -> bool
 }
 
 fn with_elsewhere(look: Look, next: usize, elsewhere: u32) -> Look
-    ensures { λ r. ⌜ r ≡ record { next = next; phase = look .phase; listed = look .listed; elsewhere = elsewhere; zeros = look .zeros; «zeros_decided» = look .«zeros_decided»; ones = look .ones; «ones_decided» = look .«ones_decided»; blanks = look .blanks } ⌝ }
+    ensures { λ r. ⌜ r ≡ withElsewhere look next elsewhere ⌝ }
 {
     Look {
         next: next,
@@ -199,7 +198,7 @@ fn with_elsewhere(look: Look, next: usize, elsewhere: u32) -> Look
 // With the next ballot, if it is of a higher phase and not refused: what was listed is elsewhere.
 fn with_ahead(look: Look, head: Head, ballots: &[u8]) -> Look
     requires { ⌜ Fits head × Looks head (now ballots) look ⌝ }
-    ensures { λ r. ⌜ Looks head (now (ballots .entry)) r × (look .next ≤ r .next) × (r .next < ballotsOf (now (ballots .entry)) → r .next ≡ look .next → r .phase < ballotAt (now (ballots .entry)) (r .next) .phase → refused head (now (ballots .entry)) (r .next) ≡ true) ⌝ }
+    ensures { λ r. ⌜ GoesOn head (now (ballots .entry)) (λ p q. (r .next ≡ look .next) × (q < p)) look r ⌝ }
 {
     let i = look.next;
     if ballots.len() / BALLOT_BYTES <= i {

@@ -1,13 +1,12 @@
 // What one ballot of a list says, its value and status in one number; and sets of those who say it.
 ghost use mathlib.Core.Path.{_≡_};
-ghost use mathlib.Core.Bool.{cond, _&&_, _||_};
+ghost use mathlib.Core.Bool.{cond, _||_};
 ghost use Prim.Native.Nat.{ℕ, _<_, _≤_, _/_, _+_, _*_};
-ghost use lib.Dec.{ltb};
 ghost use lib.ListN.{length, getD};
 ghost use Rattle.rules.specs.Ballot.{ballotAt};
 ghost use Rattle.rules.specs.Heard.{member as memberOf, setOf};
 ghost use Rattle.rules.specs.Tick.{ballots as ballotsOf};
-ghost use Rattle.engine.specs.Look.{codeAt, statusesOf, codesOf, barredFrom, alone as aloneOf};
+ghost use Rattle.engine.specs.Look.{codeAt, isWithin, statusesOf, codesOf, barredFrom, alone as aloneOf};
 use codes::BALLOT_BYTES;
 use codes::PHASE_HIGH;
 use codes::PHASE_LOW;
@@ -54,7 +53,7 @@ fn code_of(value: u8, status: u8) -> usize
 // Whether its sender and codes stand within the bounds.
 pub(crate) fn stands(n: u8, codes: usize, statuses: u8, ballots: &[u8], i: usize) -> bool
     requires { ⌜ i < ballotsOf (now ballots) ⌝ }
-    ensures { λ r. ⌜ r ≡ ltb (getD (now (ballots .entry)) (i * 5) 0) n && (ltb (getD (now (ballots .entry)) (i * 5 + 2) 0) statuses && ltb (codeAt (now (ballots .entry)) i) codes) ⌝ }
+    ensures { λ r. ⌜ r ≡ isWithin n codes statuses (now (ballots .entry)) i ⌝ }
 {
     let at = i * BALLOT_BYTES;
     (ballots[at + SENDER] < n) & ((ballots[at + STATUS] < statuses) & (code_at(ballots, i) < codes))

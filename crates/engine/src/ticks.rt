@@ -81,6 +81,10 @@ fn listened(head: Head, ballots: &[u8]) -> Ticked
     requires { ⌜ soundOf head ≡ true ⌝ }
     ensures { λ r. ⌜ r ≡ listenedOf head (now (ballots .entry)) ⌝ }
 {
+    // Nothing to look at. Step 3 is taken all the same, if enough heads were heard before.
+    if ballots.len() == 0 {
+        return answer(0, head);
+    }
     let look = looked(head, ballots);
     if look.next < ballots.len() / BALLOT_BYTES {
         return refused(head, ballots, look.next);

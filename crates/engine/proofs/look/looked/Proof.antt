@@ -27,10 +27,7 @@ with-ahead-requires : tie.Need-with-ahead-requires Inv-loop μ-loop
 with-ahead-requires c κs = (c .before .before .before .before .before .before .before .pre, c .with-late .ensures .0)
 
 returns : tie.Need-returns Inv-loop μ-loop
-returns c =
-    turn-ends _ _ _ _ _ _ (c .before .before .before .before .before .if1 .taken) (c .before .before .before .before .with-present .ensures .0) (c .before .before .before .with-late .ensures .0) (c .before .before .with-ahead .ensures .0)
-    (c .before .before .before .before .with-present .ensures .1) (c .before .before .before .with-late .ensures .1) (c .before .before .with-ahead .ensures .1) (c .if2 .taken)
-    (c .before .before .before .before .with-present .ensures .2) (c .before .before .before .with-late .ensures .2) (c .before .before .with-ahead .ensures .2)
+returns c = turn-ends _ _ (c .before .before .before .before .before .before .before .loop .look) _ _ _ (c .before .before .before .before .before .if1 .taken) (c .before .before .before .before .with-present .ensures) (c .before .before .before .with-late .ensures) (c .before .before .with-ahead .ensures) (c .if2 .taken)
 
 loop-less : tie.Need-loop-less Inv-loop μ-loop
 loop-less c = omega (arith, c .before .before .before .before .before .if1 .taken, c .before .before .before .before .with-present .ensures .1, c .before .before .before .with-late .ensures .1, c .before .before .with-ahead .ensures .1, c .before .before .with-ahead .ensures .0 .0, c .if2 .left)

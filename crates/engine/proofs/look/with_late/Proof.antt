@@ -1,13 +1,11 @@
 use Prim.Native.Nat.{_-_, _≤_, _<_}
-use mathlib.Core.Path.{_≡_, sym, ap, _∙_}
-use mathlib.Core.Bool.{true}
+use mathlib.Core.Path.{sym, ap, _∙_}
 use native.Mathlib.Omega.{arith}
-use Rattle.rules.specs.Ballot.{ballotAt}
 use Rattle.rules.specs.Tick.{ballots}
 use Rattle.rules.proofs.Counting.Below.{NoneBefore, none-more}
 use Rattle.engine.specs.Look.{refused, alone}
 use Rattle.engine.proofs.Refusing.{clean-low}
-use Rattle.engine.proofs.Looking.{Sees, saidOf, sees, late-known, sees-late, look-ends}
+use Rattle.engine.proofs.Looking.{Sees, saidOf, sees, late-known, sees-late, goes-on}
 use Rattle.engine.proofs.look.with_late.Statement.{statement}
 use Rattle.engine.proofs.look.with_late.Tie as tie
 
@@ -28,9 +26,7 @@ with-elsewhere-requires c κs = tt
 
 returns : tie.Need-returns Inv-loop μ-loop
 returns c =
-    look-ends (c .before .before .before .before .before .before .args .head) (c .before .before .before .before .before .before .args .ballots .now)
-    (λ x. x .next < ballots (c .before .before .before .before .before .before .args .ballots .now) → ballotAt (c .before .before .before .before .before .before .args .ballots .now) (x .next) .phase < x .phase → refused (c .before .before .before .before .before .before .args .head) (c .before .before .before .before .before .before .args .ballots .now) (x .next) ≡ true)
-    _ _ _ _ _ (saidOf (c .before .before .before .before .before .before .args .look)) _ (c .with-elsewhere .ensures)
+    goes-on (c .before .before .before .before .before .before .args .head) (c .before .before .before .before .before .before .args .ballots .now) (λ p q. p < q) (c .before .before .before .before .before .before .args .look) _ _ _ _ (saidOf (c .before .before .before .before .before .before .args .look)) _ (c .with-elsewhere .ensures)
     (c .before .before .before .before .loop .inv .0) (c .before .before .before .before .loop .inv .1) (c .before .before .before .before .loop .inv .2) (c .before .before .before .before .loop .inv .3)
     (λ b q. absurd (omega (arith, q, c .before .if1 .taken, c .before .before .phase-at .ensures)))
 
@@ -42,9 +38,7 @@ with-elsewhere-requires-2 c κs = tt
 
 returns-2 : tie.Need-returns-2 Inv-loop μ-loop
 returns-2 c =
-    look-ends (c .before .before .before .before .before .before .before .before .args .head) (c .before .before .before .before .before .before .before .before .args .ballots .now)
-    (λ x. x .next < ballots (c .before .before .before .before .before .before .before .before .args .ballots .now) → ballotAt (c .before .before .before .before .before .before .before .before .args .ballots .now) (x .next) .phase < x .phase → refused (c .before .before .before .before .before .before .before .before .args .head) (c .before .before .before .before .before .before .before .before .args .ballots .now) (x .next) ≡ true)
-    _ _ _ _ _ (saidOf (c .before .before .before .before .before .before .before .before .args .look)) _ (c .with-elsewhere2 .ensures)
+    goes-on (c .before .before .before .before .before .before .before .before .args .head) (c .before .before .before .before .before .before .before .before .args .ballots .now) (λ p q. p < q) (c .before .before .before .before .before .before .before .before .args .look) _ _ _ _ (saidOf (c .before .before .before .before .before .before .before .before .args .look)) _ (c .with-elsewhere2 .ensures)
     (c .before .before .before .before .before .before .loop .inv .0) (c .before .before .before .before .before .before .loop .inv .1) (c .before .before .before .before .before .before .loop .inv .2) (c .before .before .before .before .before .before .loop .inv .3)
     (λ b q. sym (c .before .before .is-refused-late .ensures) ∙ c .before .if2 .taken)
 
@@ -73,9 +67,7 @@ with-elsewhere-requires-3 c κs = tt
 
 returns-3 : tie.Need-returns-3 Inv-loop μ-loop
 returns-3 c =
-    look-ends (c .before .before .before .before .args .head) (c .before .before .before .before .args .ballots .now)
-    (λ x. x .next < ballots (c .before .before .before .before .args .ballots .now) → ballotAt (c .before .before .before .before .args .ballots .now) (x .next) .phase < x .phase → refused (c .before .before .before .before .args .head) (c .before .before .before .before .args .ballots .now) (x .next) ≡ true)
-    _ _ _ _ _ (saidOf (c .before .before .before .before .args .look)) _ (c .with-elsewhere3 .ensures)
+    goes-on (c .before .before .before .before .args .head) (c .before .before .before .before .args .ballots .now) (λ p q. p < q) (c .before .before .before .before .args .look) _ _ _ _ (saidOf (c .before .before .before .before .args .look)) _ (c .with-elsewhere3 .ensures)
     (c .before .before .loop .inv .0) (c .before .before .loop .inv .1) (c .before .before .loop .inv .2) (c .before .before .loop .inv .3)
     (λ b q. absurd (omega (arith, b, c .before .loop-test .left)))
 

@@ -1,14 +1,12 @@
 use Prim.Native.Nat.{_-_, _≤_, _<_}
 use mathlib.Core.Path.{_≡_, refl, sym, ap, _∙_}
-use mathlib.Core.Bool.{true}
 use native.Mathlib.Omega.{arith}
 use lib.ListN.{length, length-set}
-use Rattle.rules.specs.Ballot.{ballotAt}
 use Rattle.rules.specs.Tick.{ballots}
 use Rattle.rules.proofs.Counting.Below.{NoneBefore, none-more}
 use Rattle.engine.specs.Look.{refused, alone, codesOf, statusesOf}
 use Rattle.engine.proofs.Refusing.{low-sender, low-code, code-read, test-passed, test-failed, refused-present}
-use Rattle.engine.proofs.Looking.{Sees, sees, phase-least, sees-present, look-ends}
+use Rattle.engine.proofs.Looking.{Sees, sees, phase-least, sees-present, goes-on}
 use Rattle.engine.proofs.look.with_present.Statement.{statement}
 use Rattle.engine.proofs.look.with_present.Tie as tie
 
@@ -47,9 +45,7 @@ with-said-requires c κs = tt
 
 returns : tie.Need-returns Inv-loop μ-loop
 returns c =
-    look-ends (c .before .before .before .before .before .before .before .before .before .before .before .before .args .head) (c .before .before .before .before .before .before .before .before .before .before .before .before .args .ballots .now)
-    (λ x. x .next < ballots (c .before .before .before .before .before .before .before .before .before .before .before .before .args .ballots .now) → ballotAt (c .before .before .before .before .before .before .before .before .before .before .before .before .args .ballots .now) (x .next) .phase ≡ x .phase → refused (c .before .before .before .before .before .before .before .before .before .before .before .before .args .head) (c .before .before .before .before .before .before .before .before .before .before .before .before .args .ballots .now) (x .next) ≡ true)
-    _ _ _ _ _ (c .before .before .before .before .before .loop .said) _ (c .with-said .ensures)
+    goes-on (c .before .before .before .before .before .before .before .before .before .before .before .before .args .head) (c .before .before .before .before .before .before .before .before .before .before .before .before .args .ballots .now) (λ p q. p ≡ q) (c .before .before .before .before .before .before .before .before .before .before .before .before .args .look) _ _ _ _ (c .before .before .before .before .before .loop .said) _ (c .with-said .ensures)
     (c .before .before .before .before .before .loop .inv .0) (c .before .before .before .before .before .loop .inv .1) (c .before .before .before .before .before .loop .inv .3) (c .before .before .before .before .before .loop .inv .4)
     (λ b q. test-failed (c .before .before .before .before .before .before .before .before .before .before .before .before .args .head) (c .before .before .before .before .before .before .before .before .before .before .before .before .args .ballots .now) (c .before .before .before .before .before .loop .i) _ _ _ _ _ (c .before .before .before .phase-at .ensures) (c .before .before .before .before .before .before .before .before .before .codes-of .ensures ∙ ap codesOf (c .before .before .before .before .before .before .before .before .before .before .class .ensures)) (c .before .before .before .before .before .before .before .statuses-of .ensures ∙ ap statusesOf (c .before .before .before .before .before .before .before .before .class2 .ensures)) (c .before .before .stands .ensures) (c .before .if1 .taken) q)
 
@@ -95,9 +91,7 @@ returns-2 : tie.Need-returns-2 Inv-loop μ-loop
 returns-2 c =
     let test = test-passed (c .before .before .before .before .before .before .before .before .before .before .before .before .before .before .before .before .args .head) (c .before .before .before .before .before .before .before .before .before .before .before .before .before .before .before .before .args .ballots .now) (c .before .before .before .before .before .before .before .before .before .loop .i) _ _ _ _ _ (c .before .before .before .before .before .before .before .phase-at .ensures) (c .before .before .before .before .before .before .before .before .before .before .before .before .before .codes-of .ensures ∙ ap codesOf (c .before .before .before .before .before .before .before .before .before .before .before .before .before .before .class .ensures)) (c .before .before .before .before .before .before .before .before .before .before .before .statuses-of .ensures ∙ ap statusesOf (c .before .before .before .before .before .before .before .before .before .before .before .before .class2 .ensures)) (c .before .before .before .before .before .before .stands .ensures) (c .before .before .before .before .before .if1 .left) in
     let low : c .before .before .before .code-at .result < 5 = omega (arith, c .before .before .before .code-at .ensures, low-code (c .before .before .before .before .before .before .before .before .before .before .before .before .before .before .before .before .args .head .n) (c .before .before .before .before .before .before .before .before .before .before .before .before .before .before .before .before .args .ballots .now) (c .before .before .before .before .before .before .before .before .before .loop .i) (test .1)) in
-    look-ends (c .before .before .before .before .before .before .before .before .before .before .before .before .before .before .before .before .args .head) (c .before .before .before .before .before .before .before .before .before .before .before .before .before .before .before .before .args .ballots .now)
-    (λ x. x .next < ballots (c .before .before .before .before .before .before .before .before .before .before .before .before .before .before .before .before .args .ballots .now) → ballotAt (c .before .before .before .before .before .before .before .before .before .before .before .before .before .before .before .before .args .ballots .now) (x .next) .phase ≡ x .phase → refused (c .before .before .before .before .before .before .before .before .before .before .before .before .before .before .before .before .args .head) (c .before .before .before .before .before .before .before .before .before .before .before .before .before .before .before .before .args .ballots .now) (x .next) ≡ true)
-    _ _ _ _ _ (c .before .before .before .before .before .before .before .before .before .loop .said) _ (c .with-said2 .ensures)
+    goes-on (c .before .before .before .before .before .before .before .before .before .before .before .before .before .before .before .before .args .head) (c .before .before .before .before .before .before .before .before .before .before .before .before .before .before .before .before .args .ballots .now) (λ p q. p ≡ q) (c .before .before .before .before .before .before .before .before .before .before .before .before .before .before .before .before .args .look) _ _ _ _ (c .before .before .before .before .before .before .before .before .before .loop .said) _ (c .with-said2 .ensures)
     (c .before .before .before .before .before .before .before .before .before .loop .inv .0) (c .before .before .before .before .before .before .before .before .before .loop .inv .1) (c .before .before .before .before .before .before .before .before .before .loop .inv .3) (c .before .before .before .before .before .before .before .before .before .loop .inv .4)
     (λ b q. sym (c .before .before .is-refused .ensures ∙ refused-present (c .before .before .before .before .before .before .before .before .before .before .before .before .before .before .before .before .args .head) (c .before .before .before .before .before .before .before .before .before .before .before .before .before .before .before .before .args .ballots .now) (c .before .before .before .before .before .before .before .before .before .loop .i) (c .before .before .before .before .before .before .before .before .before .loop .inv .3) _ _ _ _ _ _ (c .before .before .before .before .sender-at .ensures) (c .before .before .before .before .before .before .before .before .before .before .before .before .before .before .before .before .pre .0) (test .1) (test .0) (c .before .before .before .code-at .ensures ∙ code-read (c .before .before .before .before .before .before .before .before .before .before .before .before .before .before .before .before .args .head .n) (c .before .before .before .before .before .before .before .before .before .before .before .before .before .before .before .before .args .ballots .now) (c .before .before .before .before .before .before .before .before .before .loop .i) (test .1)) (c .before .before .before .before .before .before .before .before .before .before .barred-from .ensures .1 _ low) (c .before .before .before .before .before .before .before .before .before .loop .inv .4 .1) (c .before .before .before .before .before .before .before .before .before .loop .inv .4 .3 _ low)) ∙ c .before .if2 .taken)
 
@@ -152,9 +146,7 @@ with-said-requires-3 c κs = tt
 
 returns-3 : tie.Need-returns-3 Inv-loop μ-loop
 returns-3 c =
-    look-ends (c .before .before .before .before .before .before .before .before .before .args .head) (c .before .before .before .before .before .before .before .before .before .args .ballots .now)
-    (λ x. x .next < ballots (c .before .before .before .before .before .before .before .before .before .args .ballots .now) → ballotAt (c .before .before .before .before .before .before .before .before .before .args .ballots .now) (x .next) .phase ≡ x .phase → refused (c .before .before .before .before .before .before .before .before .before .args .head) (c .before .before .before .before .before .before .before .before .before .args .ballots .now) (x .next) ≡ true)
-    _ _ _ _ _ (c .before .before .loop .said) _ (c .with-said3 .ensures)
+    goes-on (c .before .before .before .before .before .before .before .before .before .args .head) (c .before .before .before .before .before .before .before .before .before .args .ballots .now) (λ p q. p ≡ q) (c .before .before .before .before .before .before .before .before .before .args .look) _ _ _ _ (c .before .before .loop .said) _ (c .with-said3 .ensures)
     (c .before .before .loop .inv .0) (c .before .before .loop .inv .1) (c .before .before .loop .inv .3) (c .before .before .loop .inv .4)
     (λ b q. absurd (omega (arith, b, c .before .loop-test .left)))
 
