@@ -6,14 +6,16 @@
   formula, a command or a line of output every word occurs in a source, and every path in it is there.
 - A name with the ending `..` is the beginning of names that are there.
 - In a table of docs/promises with a column 'File' every definition and theorem of a row stands in a file of that
-  row, or on one of the two pages.
-- Every must-fail edit is named in docs/promises once, every theorem of the two pages at least once.
+  row, or on one of the two pages; and what a cell of a column 'Code' names, in a file of that cell.
+- Every must-fail edit is named once in all papers, in docs/promises; every theorem of the two pages is named there.
 - A link leads to a file, and to a heading of it.
 - A cell of a table has at most 120 characters, and so has any other line.
 
 Each time errors are put into the papers, one at a time: what is not found then is a failure too.
 """
 
+import collections
+import functools
 import glob
 import os
 import posixpath
@@ -24,7 +26,7 @@ sys.dont_write_bytecode = True
 
 from markdown import anchors, links, parts, spans, tables
 from outside import OUTSIDE
-from seeded import seeds
+from seeded import PAPER, seeds
 from tree import PAGES, Tree, text_of
 
 WIDEST = 120
@@ -41,10 +43,12 @@ def papers():
 
 def all_faults(texts, tree):
     faults = edit_faults(texts, tree) + theorem_faults(texts, tree)
-    for path in sorted(texts):
-        for check in (name_faults, place_faults, link_faults, width_faults):
-            faults += ["%s: %s" % (path, fault) for fault in check(path, texts, tree)]
-    return faults
+    return faults + [said for path in sorted(texts) for said in paper_faults(path, texts, tree)]
+
+
+def paper_faults(path, texts, tree):
+    return ["%s: %s" % (path, said) for check in (name_faults, place_faults, link_faults, width_faults)
+            for said in check(path, texts, tree)]
 
 
 # ---- names and paths
@@ -103,48 +107,61 @@ def place_faults(path, texts, tree):
     if not path.startswith("docs/promises/"):
         return []
     faults = []
-    for table in tables(texts[path]):
-        if "File" in table[0]:
-            column = table[0].index("File")
-            for row in table[1:]:
-                faults += row_faults(row, column, tree)
+    for head, *rows in tables(texts[path]):
+        for row in rows:
+            if len(row) != len(head):
+                faults.append("a row of %d cells, not %d: %s .." % (len(row), len(head), row[0][:60]))
+                continue
+            cells = dict(zip(head, row))
+            faults += code_faults(spans(cells.pop("Code", "")), tree)
+            if "File" in cells:
+                files = spans(cells.pop("File"))
+                faults += [said for cell in cells.values() for said in file_faults(spans(cell), files, tree)]
     return faults
 
 
-def row_faults(row, column, tree):
-    if len(row) <= column:
-        return ["a row is short: %s" % " | ".join(row)[:60]]
-    files = spans(row[column])
+def file_faults(names, files, tree):
+    """Definitions and theorems that stand in none of the files."""
     faults = []
-    for cell in row[:column] + row[column + 1:]:
-        for name in spans(cell):
-            homes = [p for p in tree.names.get(name, ()) if p.endswith(".antt")]
-            if homes and name not in tree.edits and not any(stands_in(home, files) for home in homes):
-                faults.append("`%s` is not in %s" % (name, ", ".join(files) or "a file that is named"))
+    for name in names:
+        homes = [p for p in tree.names.get(name, ()) if p.endswith(".antt")]
+        if homes and name not in tree.edits and not any(h in PAGES or is_in(h, files) for h in homes):
+            faults.append("`%s` is not in %s" % (name, ", ".join(files) or "a file that is named"))
     return faults
 
 
-def stands_in(home, files):
-    return home in PAGES or any(home == f or home.endswith("/" + f) or home.startswith(f.rstrip("/") + "/")
-                                for f in files)
+def code_faults(named, tree):
+    """Functions of a cell that stand in none of its files of code."""
+    files = [name for name in named if PATH.fullmatch(name)]
+    return ["`%s` is not in %s" % (name, ", ".join(files) or "a file that is named")
+            for name in named if name not in files and not any(is_in(h, files) for h in tree.names.get(name, ()))]
+
+
+def is_in(home, files):
+    return any(home == f or home.endswith("/" + f) or home.startswith(f.rstrip("/") + "/") for f in files)
 
 
 # ---- edits, theorems
 
-def promises_of(texts):
-    return [span for path in sorted(texts) if path.startswith("docs/promises/")
-            for span in spans(parts(texts[path])[0])]
+@functools.lru_cache(maxsize=1024)
+def times_named(text):
+    return collections.Counter(spans(parts(text)[0]))
+
+
+def named_in(texts, folder):
+    return sum((times_named(texts[path]) for path in texts if path.startswith(folder)), collections.Counter())
 
 
 def edit_faults(texts, tree):
-    named = promises_of(texts)
-    return ["docs/promises: the edit `%s` is named %d times, not once" % (edit, named.count(edit))
-            for edit in tree.edits if named.count(edit) != 1]
+    """Each edit is named once in all papers, in docs/promises."""
+    everywhere, promised = named_in(texts, ""), named_in(texts, "docs/promises/")
+    return ["the edit `%s` is named %d times, %d of them in docs/promises" % (e, everywhere[e], promised[e])
+            for e in tree.edits if not everywhere[e] == promised[e] == 1]
 
 
 def theorem_faults(texts, tree):
-    named = set(promises_of(texts))
-    return ["docs/promises: the theorem `%s` is not named" % t for t in tree.theorems if t not in named]
+    promised = named_in(texts, "docs/promises/")
+    return ["the theorem `%s` is not named in docs/promises" % t for t in tree.theorems if t not in promised]
 
 
 # ---- links, widths
@@ -174,31 +191,28 @@ def width_faults(path, texts, tree):
     return faults
 
 
+def missed_seeds(texts, tree, faults):
+    """How many errors were put in, and those that no new fault shows."""
+    checks = {"edits": edit_faults, "theorems": theorem_faults,
+              "paper": lambda edited, tree: paper_faults(PAPER, edited, tree)}
+    count, missed = 0, []
+    for what, edited, check in seeds(texts, tree):
+        count += 1
+        if not [fault for fault in checks[check](edited, tree) if fault not in faults]:
+            missed.append("%s is not found" % what)
+    return count, missed
+
+
 def main():
     os.chdir(os.path.join(os.path.dirname(os.path.abspath(__file__)), "..", ".."))
     texts, tree = papers(), Tree()
     faults = all_faults(texts, tree)
-    count, missed = 0, []
-    for what, edited, check in seeds(texts, tree):
-        count += 1
-        path = [p for p in edited if edited[p] != texts[p]]
-        if check in ("edits", "theorems"):
-            found = (edit_faults if check == "edits" else theorem_faults)(edited, tree)
-        else:
-            found = [f for p in path for c in (name_faults, place_faults, link_faults, width_faults)
-                     for f in c(p, edited, tree)]
-        if not path or len(found) <= (0 if check != "any" else before(path, texts, tree)):
-            missed.append("%s is not found" % what)
+    count, missed = missed_seeds(texts, tree, faults)
     for fault in faults + missed:
         print(fault)
     print("papers: %d papers, %d edits, %d theorems, %d faults; %d errors put in, %d not found"
           % (len(texts), len(tree.edits), len(tree.theorems), len(faults), count, len(missed)))
     return 1 if faults or missed or not tree.edits or not tree.theorems or not count else 0
-
-
-def before(changed, texts, tree):
-    return sum(len(c(p, texts, tree)) for p in changed
-               for c in (name_faults, place_faults, link_faults, width_faults))
 
 
 if __name__ == "__main__":

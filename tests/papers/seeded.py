@@ -1,12 +1,13 @@
 """The errors that papers.py puts into the papers, one at a time."""
 
-RULES = "docs/promises/rules.md"
+PAPER = "docs/promises/rules.md"     # the paper that errors are put into
 
 
 def seeds(texts, tree):
     """What is wrong, the papers with it, and which check is to find it."""
     for edit in tree.edits:
         yield "the edit %s named twice" % edit, with_line(texts, "`%s`" % edit), "edits"
+        yield "the edit %s named elsewhere" % edit, with_line(texts, "`%s`" % edit, "README.md"), "edits"
         yield "the edit %s not named" % edit, without(texts, "`%s`" % edit), "edits"
     for theorem in tree.theorems:
         yield "the theorem %s not named" % theorem, without(texts, "`%s`" % theorem), "theorems"
@@ -31,13 +32,15 @@ def seeds(texts, tree):
         ("a wide line", "a " * 61),
         ("a wide cell", "| " + "a" * 121 + " | b |"),
         ("a name in another file", "| A | File |\n|---|---|\n| `tickOf` | `Ballot.antt` |"),
+        ("a function in another file", "| A | Code |\n|---|---|\n| a | `tick`, `look.rt` |"),
+        ("a row of too many cells", "| A | File |\n|---|---|\n| a | `Tick.antt` | b |"),
         ("a name in no file", "| A | File |\n|---|---|\n| `tickOf` | |"),
     ):
-        yield what, with_line(texts, line), "any"
+        yield what, with_line(texts, line), "paper"
 
 
-def with_line(texts, line):
-    return {**texts, RULES: texts[RULES] + "\n" + line + "\n"}
+def with_line(texts, line, paper=PAPER):
+    return {**texts, paper: texts[paper] + "\n" + line + "\n"}
 
 
 def without(texts, span):
