@@ -1,7 +1,8 @@
 // One ballot: the ballot rules, and reading it from its bytes.
 ghost use mathlib.Core.Path.{_≡_};
 ghost use Prim.Native.Nat.{_<_};
-ghost use Rattle.rules.specs.Ballot.{classOf, allowed as allowedOf, obeys as obeysOf, breaksRule, phaseAt, readNumber, readBallot, numberRead, ballotRead};
+ghost use Rattle.rules.specs.Ballot.{classOf, allowed as allowedOf, obeys as obeysOf, breaksRule, phaseAt};
+ghost use Rattle.rules.specs.Ballot.{readNumber, readBallot, numberRead, ballotRead};
 ghost use Rattle.rules.specs.Tick.{ballots as ballotsOf};
 use codes::BALLOT_BYTES;
 use codes::PHASE_HIGH;
@@ -17,7 +18,8 @@ use rules::Read;
 
 // Reads one ballot of a vote of n heads.
 pub fn read(n: u32, bytes: &[u8]) -> Read
-    ensures { λ r. ⌜ (numberRead r ≡ readNumber n (now (bytes .entry))) × (ballotRead r ≡ readBallot n (now (bytes .entry))) ⌝ }
+    ensures { λ r. ⌜ numberRead r ≡ readNumber n (now (bytes .entry)) ⌝ }
+    ensures { λ r. ⌜ ballotRead r ≡ readBallot n (now (bytes .entry)) ⌝ }
 {
     if not_heads(n) {
         return Read::Refused(1);
@@ -47,7 +49,8 @@ pub(crate) fn breaks_rule(n: u32, ballots: &[u8], i: usize) -> bool
 
 // The same where the class of its phase is known.
 pub(crate) fn breaks_of_class(n: u32, class: Class, ballots: &[u8], i: usize) -> bool
-    requires { ⌜ (class ≡ classOf (phaseAt (now ballots) i)) × (i < ballotsOf (now ballots)) ⌝ }
+    requires { ⌜ class ≡ classOf (phaseAt (now ballots) i) ⌝ }
+    requires { ⌜ i < ballotsOf (now ballots) ⌝ }
     ensures { λ r. ⌜ r ≡ breaksRule n (now (ballots .entry)) i ⌝ }
 {
     let at = i * BALLOT_BYTES;

@@ -8,7 +8,8 @@ ghost use lib.ListN.{length};
 ghost use Rattle.rules.specs.Below.{first};
 ghost use Rattle.rules.specs.Sizes.{headsMost, setBytes};
 ghost use Rattle.rules.specs.Record.{fourBytesAt};
-ghost use Rattle.file.specs.Section.{countAt, counted as countedOf, unlessBroken, checked, notRow, proposalsOf, neededOf, lossesOf, coinsOf};
+ghost use Rattle.file.specs.Section.{countAt, counted as countedOf, unlessBroken, checked, notRow};
+ghost use Rattle.file.specs.Section.{proposalsOf, neededOf, lossesOf, coinsOf};
 ghost use Rattle.run.specs.Sections.{fileMost, countBytes, countMost, bodyMost, Near, outside};
 use crate::places::byte_at;
 use crate::places::part;
@@ -176,7 +177,8 @@ fn is_outside(byte: u8, low: usize, high: usize) -> bool
 // The first row with a bit from n up; where there is none, the number of rows.
 fn first_not_row(rows: &[u8], n: usize) -> usize
     requires { ⌜ (length (now rows) ≤ bodyMost) × (n ≤ headsMost) ⌝ }
-    ensures { λ r. ⌜ r ≡ first (length (now (rows .entry)) / setBytes) (λ i. notRow n (now (rows .entry)) (i * setBytes)) ⌝ }
+    ensures { λ r.
+        ⌜ r ≡ first (length (now (rows .entry)) / setBytes) (λ i. notRow n (now (rows .entry)) (i * setBytes)) ⌝ }
 {
     let count = rows.len() / SET_BYTES;
     let mut i: usize = 0;
