@@ -6,6 +6,7 @@ ghost use Rattle.rules.specs.Sizes.{headsMost};
 ghost use Rattle.file.specs.Plan.{refusedPlan, taken, closed as closedOf};
 ghost use Rattle.file.specs.Plan.{afterLosses, afterNeeded, afterProposals, planOf};
 ghost use Rattle.file.specs.Table.{rowsIn, coinsIn};
+ghost use Rattle.run.specs.Sections.{roundsMost, secondMost, thirdMost, fourthMost};
 ghost use Rattle.run.specs.Small.{Small};
 use crate::places::byte_at;
 use crate::places::part;
@@ -56,7 +57,7 @@ pub(crate) fn coins_of<'a>(file: &'a [u8], plan: Plan, r: usize) -> &'a [u8]
 
 // Section 2, of a plan that has section 1.
 fn after_proposals(file: &[u8], room: usize, at: usize, known: Plan) -> Plan
-    requires { ⌜ (at ≤ 34) × (known .n ≤ headsMost) ⌝ }
+    requires { ⌜ (at ≤ secondMost) × (known .n ≤ headsMost) ⌝ }
     requires { ⌜ (known .number ≡ 0) × (known .place ≡ 0) ⌝ }
     ensures { λ r. ⌜ r ≡ afterProposals (now (file .entry)) room at (known .n) ⌝ }
 {
@@ -72,7 +73,7 @@ fn after_proposals(file: &[u8], room: usize, at: usize, known: Plan) -> Plan
 
 // Section 3, of a plan that has the two before it.
 fn after_needed(file: &[u8], room: usize, at: usize, known: Plan) -> Plan
-    requires { ⌜ (at ≤ 37) × (known .n ≤ headsMost) ⌝ }
+    requires { ⌜ (at ≤ thirdMost) × (known .n ≤ headsMost) ⌝ }
     requires { ⌜ (known .number ≡ 0) × (known .place ≡ 0) ⌝ }
     ensures { λ r. ⌜ r ≡ afterNeeded (now (file .entry)) room at (known .n) (known .needed) ⌝ }
 {
@@ -88,7 +89,7 @@ fn after_needed(file: &[u8], room: usize, at: usize, known: Plan) -> Plan
 
 // Section 4, of a plan that has the three before it.
 fn after_losses(file: &[u8], room: usize, at: usize, known: Plan) -> Plan
-    requires { ⌜ (at ≤ 32807) × (known .n ≤ headsMost) × (known .rounds ≤ 256) ⌝ }
+    requires { ⌜ (at ≤ fourthMost) × (known .n ≤ headsMost) × (known .rounds ≤ roundsMost) ⌝ }
     requires { ⌜ (known .number ≡ 0) × (known .place ≡ 0) ⌝ }
     ensures { λ r.
         ⌜ r ≡ afterLosses (now (file .entry)) room at
