@@ -28,7 +28,8 @@ pub const PHASE_LOW: usize = 4;
 
 // The ballot at index i of a list of ballots, and the ballot of zero fields where there is none.
 pub fn ballot_at(ballots: &[u8], i: usize) -> Ballot
-    ensures { λ r. ⌜ r ≡ cond (ltb i (ballotsOf (now (ballots .entry)))) (ballotAt (now (ballots .entry)) i) zeroBallot ⌝ }
+    ensures { λ r.
+        ⌜ r ≡ cond (ltb i (ballotsOf (now (ballots .entry)))) (ballotAt (now (ballots .entry)) i) zeroBallot ⌝ }
 {
     if i < ballots.len() / BALLOT_BYTES {
         let at = i * BALLOT_BYTES;

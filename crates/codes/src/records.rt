@@ -33,7 +33,9 @@ pub fn is_record(head_record: &[u8]) -> bool
 
 // The head that a record holds; bytes of another length hold the head of zeros.
 pub fn head_at(head_record: &[u8]) -> Head
-    ensures { λ r. ⌜ r ≡ cond (eqb (length (now (head_record .entry))) recordBytes) (headAt (now (head_record .entry))) zeroHead ⌝ }
+    ensures { λ r.
+        ⌜ r ≡ cond (eqb (length (now (head_record .entry))) recordBytes)
+        (headAt (now (head_record .entry))) zeroHead ⌝ }
 {
     if head_record.len() != RECORD_BYTES {
         return zero_head();

@@ -16,7 +16,7 @@ pub fn size(set: u32) -> u32
     u32::count_ones(set)
 }
 
-// Whether all heads in the set are below n. 64 bits, since n may be 32; a set has no more.
+// Whether all heads in the set are below n. In 64 bits, since n may be 32; from 64 up all are.
 pub fn within(set: u32, n: u32) -> bool
     ensures { λ r. ⌜ r ≡ withinOf n set ⌝ }
 {

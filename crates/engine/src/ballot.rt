@@ -17,7 +17,8 @@ use rules::Read;
 
 // Reads one ballot of a vote of n heads.
 pub fn read(n: u32, bytes: &[u8]) -> Read
-    ensures { λ r. ⌜ (numberRead r ≡ readNumber n (now (bytes .entry))) × (ballotRead r ≡ readBallot n (now (bytes .entry))) ⌝ }
+    ensures { λ r. ⌜ numberRead r ≡ readNumber n (now (bytes .entry)) ⌝ }
+    ensures { λ r. ⌜ ballotRead r ≡ readBallot n (now (bytes .entry)) ⌝ }
 {
     if not_heads(n) {
         return Read::Refused(1);

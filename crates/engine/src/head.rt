@@ -1,6 +1,7 @@
 // A head: its start, its soundness, and the ballot that it sends.
 ghost use mathlib.Core.Path.{_≡_};
-ghost use Rattle.rules.specs.Head.{fresh as freshOf, isDecided, isWritten, decisionIsValue, decisionFits, setsFit, phaseFits, standsUnder, sound as soundOf, startOf, ballotOf, sendOf};
+ghost use Rattle.rules.specs.Head.{fresh as freshOf, startOf, ballotOf, sendOf, isDecided, isWritten};
+ghost use Rattle.rules.specs.Head.{decisionIsValue, decisionFits, setsFit, phaseFits, standsUnder, sound as soundOf};
 ghost use Rattle.engine.specs.Stated.{stated as statedOf};
 use crate::ballot::obeys;
 use crate::heard::apart;

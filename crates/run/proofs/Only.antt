@@ -19,7 +19,7 @@ use Rattle.file.specs.declared.Benched.{Benched}
 use Rattle.file.specs.Table.{tableAfter}
 use Rattle.file.specs.Figures.{outcomeOf}
 use Rattle.file.specs.Benched.{benchedOf}
-use Rattle.run.proofs.lines.report.Reads as report
+use Rattle.run.proofs.printed.report.Reads as report
 use Rattle.run.proofs.table.bench as bench
 use Rattle.run.proofs.table.run_file as run-file
 

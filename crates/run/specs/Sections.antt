@@ -16,7 +16,21 @@ fileMost = 41001
 abbrev pub countBytes : ℕ
 countBytes = 2
 
--- the largest that such a count can be
+-- "Count of rounds, 0 to 256"
+abbrev pub roundsMost : ℕ
+roundsMost = 256
+
+-- how far back the counts of sections 2, 3 and 4 can stand: after 32 proposals; k; and 256 rounds of 32 rows of 4 bytes
+abbrev pub secondMost : ℕ
+secondMost = countBytes + headsMost
+
+abbrev pub thirdMost : ℕ
+thirdMost = secondMost + countBytes + 1
+
+abbrev pub fourthMost : ℕ
+fourthMost = thirdMost + countBytes + roundsMost * headsMost * setBytes
+
+-- the largest that a count can be
 abbrev pub countMost : ℕ
 countMost = 65535
 

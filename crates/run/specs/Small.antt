@@ -3,11 +3,11 @@
 use Prim.Native.Nat.{_≤_}
 use Rattle.rules.specs.Sizes.{headsMost}
 use Rattle.file.specs.declared.Plan.{Plan}
-use Rattle.run.specs.Sections.{fileMost}
+use Rattle.run.specs.Sections.{fileMost, roundsMost}
 
 pub record Small (plan : Plan) : Type 0 where
   pub heads : plan .n ≤ headsMost
   pub need : plan .needed ≤ plan .n
-  pub rounds : plan .rounds ≤ 256
+  pub rounds : plan .rounds ≤ roundsMost
   pub losses : plan .losses ≤ fileMost
   pub coins : plan .coins ≤ fileMost

@@ -1,7 +1,6 @@
 // The figures of a run: the bound, the good rounds, and the answer with them.
 ghost use mathlib.Core.Path.{_≡_};
 ghost use Prim.Native.Nat.{_*_, _≤_};
-ghost use lib.ListN.{length};
 ghost use Rattle.rules.specs.Sizes.{headsMost};
 ghost use Rattle.file.specs.Figures.{lostIn, boundOf, goodIn};
 ghost use Rattle.run.specs.Figures.{outcomeIn};

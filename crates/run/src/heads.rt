@@ -88,8 +88,12 @@ pub(crate) fn ticked(
 // The ballots that are not lost, in sender order. The list comes with all of them, and stays so where
 // none is lost; else each is written, and a lost one is written over.
 fn received(list: &mut [u8], ballots: &[u8], lost: u32, n: usize) -> usize
-    requires { ⌜ (n ≤ headsMost) × (length (now ballots) ≡ headsMost * ballotBytes) × (now list ≡ now ballots) ⌝ }
-    ensures { λ r. ⌜ (r ≤ n * ballotBytes) × (length (now (list .exit)) ≡ headsMost * ballotBytes) × (take r (now (list .exit)) ≡ receivedFrom (now (ballots .entry)) lost n) ⌝ }
+    requires { ⌜ n ≤ headsMost ⌝ }
+    requires { ⌜ length (now ballots) ≡ headsMost * ballotBytes ⌝ }
+    requires { ⌜ now list ≡ now ballots ⌝ }
+    ensures { λ r. ⌜ r ≤ n * ballotBytes ⌝ }
+    ensures { λ _. ⌜ length (now (list .exit)) ≡ headsMost * ballotBytes ⌝ }
+    ensures { λ r. ⌜ take r (now (list .exit)) ≡ receivedFrom (now (ballots .entry)) lost n ⌝ }
 {
     if lost == 0 {
         return n * BALLOT_BYTES;
@@ -106,8 +110,10 @@ fn received(list: &mut [u8], ballots: &[u8], lost: u32, n: usize) -> usize
 
 // Five bytes, from one place to another.
 fn copy_ballot(list: &mut [u8], at: usize, ballots: &[u8], from: usize)
-    requires { ⌜ (at + ballotBytes ≤ length (now list)) × (from + ballotBytes ≤ length (now ballots)) ⌝ }
-    ensures { λ _. ⌜ now (list .exit) ≡ sets (now (list .entry)) at (take ballotBytes (drop from (now (ballots .entry)))) ⌝ }
+    requires { ⌜ at + ballotBytes ≤ length (now list) ⌝ }
+    requires { ⌜ from + ballotBytes ≤ length (now ballots) ⌝ }
+    ensures { λ _.
+        ⌜ now (list .exit) ≡ sets (now (list .entry)) at (take ballotBytes (drop from (now (ballots .entry)))) ⌝ }
 {
     list[at] = ballots[from];
     list[at + 1] = ballots[from + 1];

@@ -7,10 +7,11 @@ mod heads;
 mod lines;
 mod places;
 mod plans;
+mod printed;
 mod sections;
 mod table;
 mod text;
 
-pub use lines::report;
+pub use printed::report;
 pub use table::bench;
 pub use table::run_file;

@@ -1,11 +1,10 @@
-// The report's text: every byte that the program prints.
+// The lines of a report, each added to a text.
 ghost use mathlib.Core.Path.{_≡_};
 ghost use Prim.Native.Nat.{_≤_};
 ghost use lib.ListN.{length};
-ghost use Rattle.file.specs.Report.{valueWord, statusWord, decisionWord, firstLine, headLine, headLines, lastLine, refusalLine, reportOf, textOf};
+ghost use Rattle.file.specs.Report.{valueWord, statusWord, decisionWord};
+ghost use Rattle.file.specs.Report.{firstLine, headLine, headLines, lastLine, refusalLine};
 ghost use Rattle.run.specs.Writing.{Held, withWord, withAll};
-use crate::table::run_file;
-use crate::text::empty;
 use crate::text::with_figure;
 use crate::text::with_word;
 use file::Outcome;
@@ -15,24 +14,7 @@ use rules::Head;
 use rules::Status;
 use rules::Value;
 
-// What the program prints for a run file.
-pub fn report(file: &[u8]) -> Text
-    ensures { λ r. ⌜ r ≡ textOf (reportOf (now (file .entry))) ⌝ }
-{
-    let done = run_file(file);
-    let outcome = done.outcome;
-    let text = empty();
-    if outcome.number != 0 {
-        return refusal_line(text, outcome);
-    }
-    let heads = done.heads;
-    last_line(
-        head_lines(first_line(text, outcome), heads, outcome.n),
-        outcome,
-    )
-}
-
-fn refusal_line(text: Text, outcome: Outcome) -> Text
+pub(crate) fn refusal_line(text: Text, outcome: Outcome) -> Text
     requires { ⌜ Held text ⌝ }
     ensures { λ r. ⌜ r ≡ withAll text (refusalLine outcome) ⌝ }
     ensures { λ r. ⌜ Held r ⌝ }
@@ -42,7 +24,7 @@ fn refusal_line(text: Text, outcome: Outcome) -> Text
     with_word(b, b"\n")
 }
 
-fn first_line(text: Text, outcome: Outcome) -> Text
+pub(crate) fn first_line(text: Text, outcome: Outcome) -> Text
     requires { ⌜ Held text ⌝ }
     ensures { λ r. ⌜ r ≡ withAll text (firstLine outcome) ⌝ }
     ensures { λ r. ⌜ Held r ⌝ }
@@ -53,7 +35,7 @@ fn first_line(text: Text, outcome: Outcome) -> Text
     with_word(c, b"\n")
 }
 
-fn last_line(text: Text, outcome: Outcome) -> Text
+pub(crate) fn last_line(text: Text, outcome: Outcome) -> Text
     requires { ⌜ Held text ⌝ }
     ensures { λ r. ⌜ r ≡ withAll text (lastLine outcome) ⌝ }
     ensures { λ r. ⌜ Held r ⌝ }
@@ -65,7 +47,7 @@ fn last_line(text: Text, outcome: Outcome) -> Text
 }
 
 // One line for each of the first n heads.
-fn head_lines(text: Text, heads: [Head; 32], n: usize) -> Text
+pub(crate) fn head_lines(text: Text, heads: [Head; 32], n: usize) -> Text
     requires { ⌜ (n ≤ 32) × Held text ⌝ }
     ensures { λ r. ⌜ r ≡ withAll text (headLines n heads) ⌝ }
     ensures { λ r. ⌜ Held r ⌝ }

@@ -3,8 +3,10 @@ ghost use mathlib.Core.Path.{_≡_};
 ghost use Prim.Native.Nat.{_≤_, _<_};
 ghost use lib.ListN.{length};
 ghost use Rattle.rules.specs.Sizes.{headsMost};
-ghost use Rattle.file.specs.Plan.{refusedPlan, taken, closedOf, afterLosses, afterNeeded, afterProposals, planOf};
+ghost use Rattle.file.specs.Plan.{refusedPlan, taken, closedOf};
+ghost use Rattle.file.specs.Plan.{afterLosses, afterNeeded, afterProposals, planOf};
 ghost use Rattle.file.specs.Table.{rowsIn, coinsIn};
+ghost use Rattle.run.specs.Sections.{roundsMost, secondMost, thirdMost, fourthMost};
 ghost use Rattle.run.specs.Small.{Small};
 use crate::places::byte_at;
 use crate::places::part;
@@ -23,10 +25,12 @@ pub(crate) fn plan_of(file: &[u8], room: usize) -> Plan
     ensures { λ r. ⌜ r ≡ planOf (now (file .entry)) room ⌝ }
 {
     let section = proposals(file);
+    let mut plan = begun(section);
     let Section::Body { start, length } = section else {
-        return refused_by(section);
+        return plan;
     };
-    after_proposals(file, room, start + length, length)
+    plan.n = length;
+    after_proposals(file, room, start + length, plan)
 }
 
 // "the loss rows of one round are a part from the middle of the file": of section 3's part.
@@ -51,56 +55,54 @@ pub(crate) fn coins_of<'a>(file: &'a [u8], plan: Plan, r: usize) -> &'a [u8]
     part(coins, r * n, n)
 }
 
-fn after_proposals(file: &[u8], room: usize, at: usize, n: usize) -> Plan
-    requires { ⌜ (at ≤ 34) × (n ≤ headsMost) ⌝ }
-    ensures { λ r. ⌜ r ≡ afterProposals (now (file .entry)) room at n ⌝ }
+// Section 2, of a plan that has section 1.
+fn after_proposals(file: &[u8], room: usize, at: usize, known: Plan) -> Plan
+    requires { ⌜ (at ≤ secondMost) × (known .n ≤ headsMost) ⌝ }
+    requires { ⌜ (known .number ≡ 0) × (known .place ≡ 0) ⌝ }
+    ensures { λ r. ⌜ r ≡ afterProposals (now (file .entry)) room at (known .n) ⌝ }
 {
-    let section = needed(file, at, n);
+    let section = needed(file, at, known.n);
     let Section::Body { start, length } = section else {
-        return refused_by(section);
+        return begun(section);
     };
     let body = part(file, start, length);
-    let k = byte_at(body, 0) as usize;
-    after_needed(file, room, start + length, n, k)
+    let mut plan = known;
+    plan.needed = byte_at(body, 0) as usize;
+    after_needed(file, room, start + length, plan)
 }
 
-fn after_needed(file: &[u8], room: usize, at: usize, n: usize, k: usize) -> Plan
-    requires { ⌜ (at ≤ 37) × (n ≤ headsMost) ⌝ }
-    ensures { λ r. ⌜ r ≡ afterNeeded (now (file .entry)) room at n k ⌝ }
+// Section 3, of a plan that has the two before it.
+fn after_needed(file: &[u8], room: usize, at: usize, known: Plan) -> Plan
+    requires { ⌜ (at ≤ thirdMost) × (known .n ≤ headsMost) ⌝ }
+    requires { ⌜ (known .number ≡ 0) × (known .place ≡ 0) ⌝ }
+    ensures { λ r. ⌜ r ≡ afterNeeded (now (file .entry)) room at (known .n) (known .needed) ⌝ }
 {
-    let section = losses(file, at, n);
+    let section = losses(file, at, known.n);
     let Section::Body { start, length } = section else {
-        return refused_by(section);
+        return begun(section);
     };
-    let rounds = count_at(file, at);
-    after_losses(file, room, start + length, n, k, rounds, start)
+    let mut plan = known;
+    plan.rounds = count_at(file, at);
+    plan.losses = start;
+    after_losses(file, room, start + length, plan)
 }
 
-fn after_losses(
-    file: &[u8],
-    room: usize,
-    at: usize,
-    n: usize,
-    k: usize,
-    rounds: usize,
-    rows: usize,
-) -> Plan
-    requires { ⌜ (at ≤ 32807) × (n ≤ headsMost) × (rounds ≤ 256) ⌝ }
-    ensures { λ r. ⌜ r ≡ afterLosses (now (file .entry)) room at n k rounds rows ⌝ }
+// Section 4, of a plan that has the three before it.
+fn after_losses(file: &[u8], room: usize, at: usize, known: Plan) -> Plan
+    requires { ⌜ (at ≤ fourthMost) × (known .n ≤ headsMost) × (known .rounds ≤ roundsMost) ⌝ }
+    requires { ⌜ (known .number ≡ 0) × (known .place ≡ 0) ⌝ }
+    ensures { λ r.
+        ⌜ r ≡ afterLosses (now (file .entry)) room at
+        (known .n) (known .needed) (known .rounds) (known .losses) ⌝ }
 {
+    let n = known.n;
+    let rounds = known.rounds;
     let section = coins(file, at, rounds * n);
     let Section::Body { start, length } = section else {
-        return refused_by(section);
+        return begun(section);
     };
-    let plan = Plan {
-        number: 0,
-        place: 0,
-        n: n,
-        needed: k,
-        rounds: rounds,
-        losses: rows,
-        coins: start,
-    };
+    let mut plan = known;
+    plan.coins = start;
     closed(file.len(), room, start + length, plan)
 }
 
@@ -117,7 +119,8 @@ fn closed(length: usize, room: usize, end: usize, plan: Plan) -> Plan
     plan
 }
 
-fn refused_by(section: Section) -> Plan
+// The plan that a section leads to: a refused one, or one of zeros that may grow.
+fn begun(section: Section) -> Plan
     ensures { λ r. ⌜ r ≡ taken section (λ start length. refusedPlan 0 0) ⌝ }
 {
     let Section::Refused { number, place } = section else {

@@ -8,8 +8,9 @@ ghost use lib.ListN.{length};
 ghost use Rattle.rules.specs.Below.{first};
 ghost use Rattle.rules.specs.Sizes.{headsMost, setBytes};
 ghost use Rattle.rules.specs.Record.{fourBytesAt};
-ghost use Rattle.file.specs.Section.{countAt, counted as countedOf, unlessBroken, checked, notRow, proposalsOf, neededOf, lossesOf, coinsOf};
-ghost use Rattle.run.specs.Sections.{fileMost, countBytes, countMost, bodyMost, Near, outside};
+ghost use Rattle.file.specs.Section.{countAt, counted as countedOf, unlessBroken, checked, notRow};
+ghost use Rattle.file.specs.Section.{proposalsOf, neededOf, lossesOf, coinsOf};
+ghost use Rattle.run.specs.Sections.{fileMost, countBytes, countMost, roundsMost, bodyMost, Near, outside};
 use crate::places::byte_at;
 use crate::places::part;
 use codes::SET_BYTES;
@@ -20,6 +21,9 @@ use file::Section;
 
 // "a two-byte count"
 pub(crate) const COUNT_BYTES: usize = 2;
+
+// "Count of rounds, 0 to 256"
+const ROUNDS_MOST: usize = 256;
 
 // "Count n (2 to 32), then n proposals (0 or 1)."
 pub(crate) fn proposals(file: &[u8]) -> Section
@@ -46,14 +50,14 @@ pub(crate) fn losses(file: &[u8], at: usize, n: usize) -> Section
     let rounds = count_at(file, at);
     checked_rows(
         file,
-        counted(file, at, 256 < rounds, rounds * n * SET_BYTES),
+        counted(file, at, ROUNDS_MOST < rounds, rounds * n * SET_BYTES),
         n,
     )
 }
 
 // "Count n times rounds, then that many coins (0 or 1)"
 pub(crate) fn coins(file: &[u8], at: usize, count: usize) -> Section
-    requires { ⌜ (at ≤ fileMost) × (count ≤ 8192) ⌝ }
+    requires { ⌜ (at ≤ fileMost) × (count ≤ roundsMost * headsMost) ⌝ }
     ensures { λ r. ⌜ r ≡ coinsOf (now (file .entry)) at count ⌝ }
 {
     let read = count_at(file, at);
@@ -176,7 +180,8 @@ fn is_outside(byte: u8, low: usize, high: usize) -> bool
 // The first row with a bit from n up; where there is none, the number of rows.
 fn first_not_row(rows: &[u8], n: usize) -> usize
     requires { ⌜ (length (now rows) ≤ bodyMost) × (n ≤ headsMost) ⌝ }
-    ensures { λ r. ⌜ r ≡ first (length (now (rows .entry)) / setBytes) (λ i. notRow n (now (rows .entry)) (i * setBytes)) ⌝ }
+    ensures { λ r.
+        ⌜ r ≡ first (length (now (rows .entry)) / setBytes) (λ i. notRow n (now (rows .entry)) (i * setBytes)) ⌝ }
 {
     let count = rows.len() / SET_BYTES;
     let mut i: usize = 0;

@@ -3,7 +3,9 @@
 ghost use mathlib.Core.Path.{_≡_};
 ghost use lib.ListN.{length, replicate};
 ghost use Rattle.rules.specs.Sizes.{recordBytes};
-ghost use Rattle.rules.specs.Record.{recordOf, startNumberFromC, recordAfterStart, tickNumberFromC, recordAfterTick, sendNumberFromC, bufferAfterSend};
+ghost use Rattle.rules.specs.Record.{recordOf, startNumberFromC, recordAfterStart};
+ghost use Rattle.rules.specs.Record.{tickNumberFromC, recordAfterTick};
+ghost use Rattle.rules.specs.Record.{sendNumberFromC, bufferAfterSend};
 use codes::BALLOT_BYTES;
 use codes::RECORD_BYTES;
 use codes::head_at;
@@ -14,9 +16,11 @@ use engine::start;
 use engine::tick;
 use rules::Head;
 
+// Starts a head with its proposal, in a record of any former contents; the number is given back.
 #[no_mangle]
 pub extern "C" fn vote_start(head_record: &mut [u8], n: u32, own: u32, proposal: u32) -> u32
-    ensures { λ r. ⌜ (r ≡ startNumberFromC (now (head_record .entry)) n own proposal) × (now (head_record .exit) ≡ recordAfterStart (now (head_record .entry)) n own proposal) ⌝ }
+    ensures { λ r. ⌜ r ≡ startNumberFromC (now (head_record .entry)) n own proposal ⌝ }
+    ensures { λ _. ⌜ now (head_record .exit) ≡ recordAfterStart (now (head_record .entry)) n own proposal ⌝ }
 {
     let started = start(n, own, proposal);
     if started.number != 0 {
@@ -30,9 +34,12 @@ pub extern "C" fn vote_start(head_record: &mut [u8], n: u32, own: u32, proposal:
     0
 }
 
+// Ticks the record's head with a list of ballots and a coin; the number is given back.
 #[no_mangle]
 pub extern "C" fn vote_tick(head_record: &mut [u8], ballots: &[u8], coin: u32) -> u32
-    ensures { λ r. ⌜ (r ≡ tickNumberFromC (now (head_record .entry)) (now (ballots .entry)) coin) × (now (head_record .exit) ≡ recordAfterTick (now (head_record .entry)) (now (ballots .entry)) coin) ⌝ }
+    ensures { λ r. ⌜ r ≡ tickNumberFromC (now (head_record .entry)) (now (ballots .entry)) coin ⌝ }
+    ensures { λ _.
+        ⌜ now (head_record .exit) ≡ recordAfterTick (now (head_record .entry)) (now (ballots .entry)) coin ⌝ }
 {
     if !is_record(head_record) {
         return 3;
@@ -46,9 +53,11 @@ pub extern "C" fn vote_tick(head_record: &mut [u8], ballots: &[u8], coin: u32) -
     0
 }
 
+// Writes the ballot of the record's head into a buffer of five bytes; the number is given back.
 #[no_mangle]
 pub extern "C" fn vote_ballot(head_record: &[u8], ballot: &mut [u8]) -> u32
-    ensures { λ r. ⌜ (r ≡ sendNumberFromC (now (head_record .entry)) (now (ballot .entry))) × (now (ballot .exit) ≡ bufferAfterSend (now (head_record .entry)) (now (ballot .entry))) ⌝ }
+    ensures { λ r. ⌜ r ≡ sendNumberFromC (now (head_record .entry)) (now (ballot .entry)) ⌝ }
+    ensures { λ _. ⌜ now (ballot .exit) ≡ bufferAfterSend (now (head_record .entry)) (now (ballot .entry)) ⌝ }
 {
     if !is_record(head_record) {
         clear(ballot);

@@ -39,17 +39,17 @@ mul-result c = search needs
 
 returns : tie.Need-returns Inv-loop μ-loop
 returns c = let pre = c .before .before .before .pre in
-    (omega arith, ap length (pre .2) ∙ pre .1, ap (take (c .before .before .before .args .n * 5)) (pre .2) ∙ sym (all-received (c .before .before .before .args .ballots .now) (c .before .before .before .args .n)) ∙ ap (λ (l : ℕ). receivedFrom (c .before .before .before .args .ballots .now) l (c .before .before .before .args .n)) (sym (c .if1 .taken)))
+    (omega arith, (ap length (pre .1 .1) ∙ pre .1 .0, ap (take (c .before .before .before .args .n * 5)) (pre .1 .1) ∙ sym (all-received (c .before .before .before .args .ballots .now) (c .before .before .before .args .n)) ∙ ap (λ (l : ℕ). receivedFrom (c .before .before .before .args .ballots .now) l (c .before .before .before .args .n)) (sym (c .if1 .taken))))
 
 loop-holds : tie.Need-loop-holds Inv-loop μ-loop
 unfolding receivedFrom
-loop-holds c = let pre = c .before .before .before .pre in (omega arith, omega arith, ap length (pre .2) ∙ pre .1, refl)
+loop-holds c = let pre = c .before .before .before .pre in (omega arith, omega arith, ap length (pre .1 .1) ∙ pre .1 .0, refl)
 
 mul-copy-ballot : tie.Need-mul-copy-ballot Inv-loop μ-loop
 mul-copy-ballot c = omega arith
 
 copy-ballot-requires : tie.Need-copy-ballot-requires Inv-loop μ-loop
-copy-ballot-requires c κs = let e = c .before .before .loop .inv in (omega (arith, e .1, e .2, c .before .before .before .before .before .before .pre .0), omega (arith, c .before .before .before .before .before .before .pre .0, c .before .before .before .before .before .before .pre .1))
+copy-ballot-requires c κs = let e = c .before .before .loop .inv in (omega (arith, e .1, e .2, c .before .before .before .before .before .before .pre .0), omega (arith, c .before .before .before .before .before .before .pre .0, c .before .before .before .before .before .before .pre .1 .0))
 
 cast-member : tie.Need-cast-member Inv-loop μ-loop
 cast-member c = record { fits = omega (arith, c .before .before .before .before .before .before .before .before .before .pre .0) }
@@ -75,15 +75,15 @@ loop-again c = let e = c .before .before .before .before .before .before .before
       omega arith,
       omega (arith, e .1, c .kept-bytes .ensures, kept-small (c .before .member .result)),
       ap length (c .before .before .before .before .copy-ballot .ensures) ∙ length-sets (c .before .before .before .before .before .before .before .loop .list) (c .before .before .before .before .before .before .before .loop .at) (fiveAt (c .before .before .before .before .before .before .before .before .before .before .before .args .ballots .now) (c .before .before .before .before .before .before .before .loop .k)) ∙ e .2,
-      received-more _ _ _ _ _ _ _ _ (omega (arith, e .1, e .2, pre .0)) (omega (arith, pre .0, pre .1)) (e .3) (c .before .before .before .before .copy-ballot .ensures) (c .before .member .ensures) (c .kept-bytes .ensures),
+      received-more _ _ _ _ _ _ _ _ (omega (arith, e .1, e .2, pre .0)) (omega (arith, pre .0, pre .1 .0)) (e .3) (c .before .before .before .before .copy-ballot .ensures) (c .before .member .ensures) (c .kept-bytes .ensures),
     )
 
 same-length : tie.Need-same-length Inv-loop μ-loop
-same-length c = c .before .loop .inv .2 ∙ sym (ap length (c .before .before .before .before .before .pre .2) ∙ c .before .before .before .before .before .pre .1)
+same-length c = c .before .loop .inv .2 ∙ sym (ap length (c .before .before .before .before .before .pre .1 .1) ∙ c .before .before .before .before .before .pre .1 .0)
 
 returns-2 : tie.Need-returns-2 Inv-loop μ-loop
 returns-2 c = let e = c .before .loop .inv in
-    (omega (arith, e .0, e .1), e .2, e .3 ∙ ap (receivedFrom (c .before .before .before .before .before .args .ballots .now) (c .before .before .before .before .before .args .lost)) (le-antisymm (e .0) (c .loop-test .left)))
+    (omega (arith, e .0, e .1), (e .2, e .3 ∙ ap (receivedFrom (c .before .before .before .before .before .args .ballots .now) (c .before .before .before .before .before .args .lost)) (le-antisymm (e .0) (c .loop-test .left))))
 
 pub received-spec : {M : Type 1} → statement M
 received-spec =

@@ -18,25 +18,25 @@ enum-known-section c = search needs
 enum-told : tie.Need-enum-told
 enum-told c = search needs
 
-refused-by-requires : tie.Need-refused-by-requires
-refused-by-requires c κs = search needs
+begun-requires : tie.Need-begun-requires
+begun-requires c κs = search needs
 
 returns : tie.Need-returns
 unfolding afterNeeded
-returns c = refused-section _ _ _ _ _ _ _ (c .refused-by .ensures) (c .before .enum-told .given .1) (c .before .before .before .losses .ensures)
+returns c = refused-section _ _ _ _ _ _ _ (c .begun .ensures) (c .before .enum-told .given .1) (c .before .before .before .losses .ensures)
 
 count-at-requires : tie.Need-count-at-requires
 count-at-requires c κs = search needs
 
 add-after-losses : tie.Need-add-after-losses
-add-after-losses c = let a = losses-body (c .before .before .before .before .before .before .args .file .now) _ _ _ _ (sym (c .before .before .before .before .losses .ensures) ∙ c .before .before .section .given .1) in record { fits = omega (arith, a .starts, a .sized, c .before .before .before .before .before .before .pre .0, mul-le-mul (a .rounds) (c .before .before .before .before .before .before .pre .1)) }
+add-after-losses c = let a = losses-body (c .before .before .before .before .before .before .args .file .now) _ _ _ _ (sym (c .before .before .before .before .losses .ensures) ∙ c .before .before .section .given .1) in record { fits = omega (arith, a .starts, a .sized, c .before .before .before .before .before .before .pre .0 .0, mul-le-mul (a .rounds) (c .before .before .before .before .before .before .pre .0 .1)) }
 
 after-losses-requires : tie.Need-after-losses-requires
-after-losses-requires c κs = let a = losses-body (c .before .before .before .before .before .before .args .file .now) _ _ _ _ (sym (c .before .before .before .before .losses .ensures) ∙ c .before .before .section .given .1) in (omega (arith, a .starts, a .sized, c .before .before .before .before .before .before .pre .0, mul-le-mul (a .rounds) (c .before .before .before .before .before .before .pre .1)), c .before .before .before .before .before .before .pre .1, omega (arith, a .rounds, c .count-at .ensures .0))
+after-losses-requires c κs = let a = losses-body (c .before .before .before .before .before .before .args .file .now) _ _ _ _ (sym (c .before .before .before .before .losses .ensures) ∙ c .before .before .section .given .1) in ((omega (arith, a .starts, a .sized, c .before .before .before .before .before .before .pre .0 .0, mul-le-mul (a .rounds) (c .before .before .before .before .before .before .pre .0 .1)), c .before .before .before .before .before .before .pre .0 .1, omega (arith, a .rounds, c .count-at .ensures .0)), c .before .before .before .before .before .before .pre .1)
 
 returns-2 : tie.Need-returns-2
 unfolding afterNeeded
-returns-2 c = c .after-losses .ensures ∙ ap (λ (rounds : ℕ). afterLosses (c .before .before .before .before .before .before .before .args .file .now) (c .before .before .before .before .before .before .before .args .room) (c .before .before .before .section .given .0 .0 + c .before .before .before .section .given .0 .1 .0) (c .before .before .before .before .before .before .before .args .n) (c .before .before .before .before .before .before .before .args .k) rounds (c .before .before .before .section .given .0 .0)) (c .before .count-at .ensures .0) ∙ next-section _ _ _ _ _ (c .before .before .before .section .given .1) (c .before .before .before .before .before .losses .ensures)
+returns-2 c = c .after-losses .ensures ∙ ap (λ (rounds : ℕ). afterLosses (c .before .before .before .before .before .before .before .args .file .now) (c .before .before .before .before .before .before .before .args .room) (c .before .before .before .section .given .0 .0 + c .before .before .before .section .given .0 .1 .0) (c .before .before .before .before .before .before .before .args .known .n) (c .before .before .before .before .before .before .before .args .known .needed) rounds (c .before .before .before .section .given .0 .0)) (c .before .count-at .ensures .0) ∙ next-section _ _ _ _ _ (c .before .before .before .section .given .1) (c .before .before .before .before .before .losses .ensures)
 
 pub after-needed-spec : {M : Type 1} → statement M
 after-needed-spec =
@@ -45,7 +45,7 @@ after-needed-spec =
     losses-requires
     enum-known-section
     enum-told
-    refused-by-requires
+    begun-requires
     returns
     count-at-requires
     add-after-losses

@@ -21,12 +21,12 @@ enum-known-section c = search needs
 enum-told : tie.Need-enum-told
 enum-told c = search needs
 
-refused-by-requires : tie.Need-refused-by-requires
-refused-by-requires c κs = search needs
+begun-requires : tie.Need-begun-requires
+begun-requires c κs = search needs
 
 returns : tie.Need-returns
 unfolding afterProposals
-returns c = refused-section _ _ _ _ _ _ _ (c .refused-by .ensures) (c .before .enum-told .given .1) (c .before .before .before .needed .ensures)
+returns c = refused-section _ _ _ _ _ _ _ (c .begun .ensures) (c .before .enum-told .given .1) (c .before .before .before .needed .ensures)
 
 part-requires : tie.Need-part-requires
 part-requires c κs = search needs
@@ -34,14 +34,14 @@ part-requires c κs = search needs
 byte-at-requires : tie.Need-byte-at-requires
 byte-at-requires c κs = search needs
 
-cast-k : tie.Need-cast-k
-cast-k c = search needs
+cast-plan : tie.Need-cast-plan
+cast-plan c = search needs
 
 add-after-needed : tie.Need-add-after-needed
-add-after-needed c = let a = needed-body (c .before .before .before .before .before .before .before .args .file .now) _ _ _ _ (sym (c .before .before .before .before .before .needed .ensures) ∙ c .before .before .before .section .given .1) in record { fits = omega (arith, a .starts, a .single, c .before .before .before .before .before .before .before .pre .0) }
+add-after-needed c = let a = needed-body (c .before .before .before .before .before .before .before .args .file .now) _ _ _ _ (sym (c .before .before .before .before .before .needed .ensures) ∙ c .before .before .before .section .given .1) in record { fits = omega (arith, a .starts, a .single, c .before .before .before .before .before .before .before .pre .0 .0) }
 
 after-needed-requires : tie.Need-after-needed-requires
-after-needed-requires c κs = let a = needed-body (c .before .before .before .before .before .before .before .args .file .now) _ _ _ _ (sym (c .before .before .before .before .before .needed .ensures) ∙ c .before .before .before .section .given .1) in (omega (arith, a .starts, a .single, c .before .before .before .before .before .before .before .pre .0), c .before .before .before .before .before .before .before .pre .1)
+after-needed-requires c κs = let a = needed-body (c .before .before .before .before .before .before .before .args .file .now) _ _ _ _ (sym (c .before .before .before .before .before .needed .ensures) ∙ c .before .before .before .section .given .1) in ((omega (arith, a .starts, a .single, c .before .before .before .before .before .before .before .pre .0 .0), c .before .before .before .before .before .before .before .pre .0 .1), c .before .before .before .before .before .before .before .pre .1)
 
 returns-2 : tie.Need-returns-2
 unfolding afterProposals
@@ -50,7 +50,7 @@ returns-2 c = let file = c .before .before .before .before .before .before .befo
     let size = c .before .before .before .before .section .given .0 .1 .0 in
     let a = needed-body file _ _ _ _ (sym (c .before .before .before .before .before .before .needed .ensures) ∙ c .before .before .before .before .section .given .1) in
     let k = c .before .byte-at .ensures ∙ ap (λ (l : List ℕ). getD l 0 0) (c .before .before .part .ensures) ∙ byte-of-part file start size 0 (omega (arith, a .single)) ∙ ap (λ (i : ℕ). getD file i 0) (add-zero start) in
-    c .after-needed .ensures ∙ ap (afterNeeded file (c .before .before .before .before .before .before .before .before .args .room) (start + size) (c .before .before .before .before .before .before .before .before .args .n)) k ∙ next-section _ _ _ _ _ (c .before .before .before .before .section .given .1) (c .before .before .before .before .before .before .needed .ensures)
+    c .after-needed .ensures ∙ ap (afterNeeded file (c .before .before .before .before .before .before .before .before .args .room) (start + size) (c .before .before .before .before .before .before .before .before .args .known .n)) k ∙ next-section _ _ _ _ _ (c .before .before .before .before .section .given .1) (c .before .before .before .before .before .before .needed .ensures)
 
 pub after-proposals-spec : {M : Type 1} → statement M
 after-proposals-spec =
@@ -59,11 +59,11 @@ after-proposals-spec =
     needed-requires
     enum-known-section
     enum-told
-    refused-by-requires
+    begun-requires
     returns
     part-requires
     byte-at-requires
-    cast-k
+    cast-plan
     add-after-needed
     after-needed-requires
     returns-2)

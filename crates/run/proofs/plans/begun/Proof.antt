@@ -1,6 +1,6 @@
 use borrow.Author.Needs.{needs}
-use Rattle.run.proofs.plans.refused_by.Statement.{statement}
-use Rattle.run.proofs.plans.refused_by.Tie as tie
+use Rattle.run.proofs.plans.begun.Statement.{statement}
+use Rattle.run.proofs.plans.begun.Tie as tie
 
 enum-known-section : tie.Need-enum-known-section
 enum-known-section c = search needs
@@ -20,7 +20,7 @@ refused-requires-2 c κs = search needs
 returns-2 : tie.Need-returns-2
 returns-2 c = simp (c .before .before .section .given .1, c .refused2 .ensures)
 
-pub refused-by-spec : {M : Type 1} → statement M
-refused-by-spec =
+pub begun-spec : {M : Type 1} → statement M
+begun-spec =
     tie.close
     (tie.spec enum-known-section enum-told refused-requires returns refused-requires-2 returns-2)

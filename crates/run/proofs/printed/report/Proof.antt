@@ -3,8 +3,8 @@ use mathlib.Core.Path.{sym, subst}
 use borrow.Author.Needs.{needs}
 use Rattle.file.specs.declared.Benched.{Benched}
 use Rattle.run.proofs.Reports.{benched-few, refusal-is-report, lines-report}
-use Rattle.run.proofs.lines.report.Statement.{statement}
-use Rattle.run.proofs.lines.report.Tie as tie
+use Rattle.run.proofs.printed.report.Statement.{statement}
+use Rattle.run.proofs.printed.report.Tie as tie
 
 run-file-requires : tie.Need-run-file-requires
 run-file-requires c κs = search needs
