@@ -18,7 +18,8 @@ use Rattle.engine.specs.Look.{alone, code, ballotBy, barredFrom}
 use Rattle.engine.proofs.Growing.{set-as}
 use Rattle.engine.proofs.Refusing.{means-state}
 
-pub either-set : (a b c : ℕ) → a < 2 ^ 32 → b < 2 ^ 32 → c < 2 ^ 32 → bitOr a (bitOr b c) ≡ setOf 32 (λ s. member s a || (member s b || member s c))
+pub either-set : (a b c : ℕ) → a < 2 ^ 32 → b < 2 ^ 32 → c < 2 ^ 32
+    → bitOr a (bitOr b c) ≡ setOf 32 (λ s. member s a || (member s b || member s c))
 either-set a b c x y z =
     setOf-is 32 (bitOr a (bitOr b c)) _ (or-lt 32 a (bitOr b c) x (or-lt 32 b c y z))
     (λ s l. member-or s a (bitOr b c) ∙ ap (λ (t : Bool). member s a || t) (member-or s b c))
@@ -27,7 +28,8 @@ same-way : (a b : ℕ) → eqb a b ≡ eqb b a
 same-way a b = means-same (means-eq a b) (means-as (λ e. sym e) (λ e. sym e) (means-eq b a))
 
 -- at a higher phase than the head's: the head itself
-pub barred-ahead : (h : Head) (p own : ℕ) → own ≡ alone (h .own) → h .phase ≤ p → (p ≡ h .phase → ⊥) → (c : ℕ) → own ≡ barredFrom h p c
+pub barred-ahead : (h : Head) (p own : ℕ) → own ≡ alone (h .own) → h .phase ≤ p → (p ≡ h .phase → ⊥) → (c : ℕ)
+    → own ≡ barredFrom h p c
 unfolding ownOtherwise heldOtherwise
 barred-ahead h p own w b n c = w ∙ set-as each
   where
@@ -38,7 +40,8 @@ barred-ahead h p own w b n c = w ∙ set-as each
         same-way (h .own) s ∙ sym (or-never (eqb s (h .own))) ∙ sym (ap (λ (t : Bool). t || false) (and-always (eqb s (h .own)))) ∙ simp (higher, away)
 
 -- at the head's phase: those held under another value, in a and b, and the head itself unless that is its own
-pub barred-here : (h : Head) (p c own k u a b : ℕ) → own ≡ alone (h .own) → p ≡ h .phase → k ≡ code (ballotOf h) → u ≡ cond (eqb k c) 0 own
+pub barred-here : (h : Head) (p c own k u a b : ℕ) → own ≡ alone (h .own) → p ≡ h .phase → k ≡ code (ballotOf h)
+    → u ≡ cond (eqb k c) 0 own
     → valueCode (valueOf (c / 2)) * 2 + statusCode (statusOf (c % 2)) ≡ c
     → ((s : ℕ) → member s a || member s b ≡ not (standsUnder h s (valueOf (c / 2))))
     → setOf 32 (λ s. member s a || (member s b || member s u)) ≡ barredFrom h p c
@@ -58,7 +61,8 @@ barred-here h p c own k u a b w e d v back held =
     held-part s = held s ∙ sym (ap (λ (t : Bool). t && not (standsUnder h s (valueOf (c / 2)))) (eq-eqb p (h .phase) e))
 
     state : (s : ℕ) → sameState (ballotBy s c p) (ballotOf h) ≡ eqb k c
-    state s = means-same (means-state (ballotBy s c p) (ballotOf h)) (means-as (λ q. back ∙ sym q ∙ d) (λ q. d ∙ sym q ∙ back) (means-eq k c))
+    state s =
+        means-same (means-state (ballotBy s c p) (ballotOf h)) (means-as (λ q. back ∙ sym q ∙ d) (λ q. d ∙ sym q ∙ back) (means-eq k c))
 
     in-u : (s : ℕ) → s < 32 → (t : Bool) → member s (cond t 0 own) ≡ eqb s (h .own) && not t
     in-u s l true = member-none s ∙ sym (and-no (eqb s (h .own)))

@@ -21,11 +21,18 @@ below-zero a b t = means-and (means-lt {a = a} {b = b}) (means-eq t 0)
 pub two-bounds : (c : Class) (v t : ℕ) → allowed c v t ≡ ltb t (statusesOf c) && ltb (v * 2 + t) (codesOf c)
 unfolding allowed
 two-bounds Never v t = sym (ap (λ (b : Bool). b && ltb (v * 2 + t) 0) (le-ltb t 0 (omega arith)))
-two-bounds First v t = means-same (means-as (λ p. (omega (arith, p .1), omega (arith, p .0, p .1))) (λ q. (omega (arith, q .0, q .1), omega (arith, q .0))) (below-zero v 2 t)) (both t 1 (v * 2 + t) 4)
-two-bounds Second v t = means-same (means-as (λ p. (omega (arith, p .1), omega (arith, p .0, p .1))) (λ q. (omega (arith, q .0, q .1), omega (arith, q .0))) (below-zero v 3 t)) (both t 1 (v * 2 + t) 5)
-two-bounds Odd v t = means-same (means-as (λ p. (p .1, omega (arith, p .0, p .1))) (λ q. (omega (arith, q .0, q .1), q .0)) (both v 2 t 2)) (both t 2 (v * 2 + t) 4)
+two-bounds First v t =
+    means-same (means-as (λ p. (omega (arith, p .1), omega (arith, p .0, p .1))) (λ q. (omega (arith, q .0, q .1), omega (arith, q .0))) (below-zero v 2 t)) (both t 1 (v * 2 + t) 4)
+two-bounds Second v t =
+    means-same (means-as (λ p. (omega (arith, p .1), omega (arith, p .0, p .1))) (λ q. (omega (arith, q .0, q .1), omega (arith, q .0))) (below-zero v 3 t)) (both t 1 (v * 2 + t) 5)
+two-bounds Odd v t =
+    means-same (means-as (λ p. (p .1, omega (arith, p .0, p .1))) (λ q. (omega (arith, q .0, q .1), q .0)) (both v 2 t 2)) (both t 2 (v * 2 + t) 4)
 two-bounds Even v t = go (ℕ-discrete v 2)
   where
     go : Dec (v ≡ 2) → cond (eqb v 2) (eqb t 0) (ltb v 2 && ltb t 2) ≡ ltb t 2 && ltb (v * 2 + t) 5
-    go (yes e) = ap (λ (b : Bool). cond b (eqb t 0) (ltb v 2 && ltb t 2)) (eq-eqb v 2 e) ∙ means-same (means-as (λ p. (omega (arith, p), omega (arith, p, e))) (λ q. omega (arith, q .1, e)) (means-eq t 0)) (both t 2 (v * 2 + t) 5)
-    go (no n) = ap (λ (b : Bool). cond b (eqb t 0) (ltb v 2 && ltb t 2)) (ne-eqb v 2 n) ∙ means-same (means-as (λ p. (p .1, omega (arith, p .0, p .1))) (λ q. (omega (arith, q .1, n), q .0)) (both v 2 t 2)) (both t 2 (v * 2 + t) 5)
+    go (yes e) =
+        ap (λ (b : Bool). cond b (eqb t 0) (ltb v 2 && ltb t 2)) (eq-eqb v 2 e)
+        ∙ means-same (means-as (λ p. (omega (arith, p), omega (arith, p, e))) (λ q. omega (arith, q .1, e)) (means-eq t 0)) (both t 2 (v * 2 + t) 5)
+    go (no n) =
+        ap (λ (b : Bool). cond b (eqb t 0) (ltb v 2 && ltb t 2)) (ne-eqb v 2 n)
+        ∙ means-same (means-as (λ p. (p .1, omega (arith, p .0, p .1))) (λ q. (omega (arith, q .1, n), q .0)) (both v 2 t 2)) (both t 2 (v * 2 + t) 5)

@@ -52,12 +52,14 @@ module _ (h : Head) (l : List ℕ) where
   pub first-refused : (at : ℕ) → at ≡ first (ballots l) (refused h l) → at < ballots l → refused h l at ≡ true
   first-refused at e b = ap (refused h l) e ∙ first-holds (ballots l) (refused h l) (omega arith)
 
-  pub looked-next : (look : Look) → look ≡ lookAt h l (first (ballots l) (refused h l)) → look .next ≡ first (ballots l) (refused h l)
+  pub looked-next : (look : Look) → look ≡ lookAt h l (first (ballots l) (refused h l))
+      → look .next ≡ first (ballots l) (refused h l)
   unfolding lookAt
   looked-next look e = ap (λ (x : Look). x .next) e
 
   -- a look that came to the end
-  pub looked-all : (look : Look) → look ≡ lookAt h l (first (ballots l) (refused h l)) → ballots l ≤ look .next → Looks h l look × (look .next ≡ ballots l)
+  pub looked-all : (look : Look) → look ≡ lookAt h l (first (ballots l) (refused h l)) → ballots l ≤ look .next
+      → Looks h l look × (look .next ≡ ballots l)
   looked-all look e b =
       let next = looked-next look e in
       let most = first-le (ballots l) (refused h l) in
@@ -87,16 +89,21 @@ module _ (h : Head) (l : List ℕ) where
         some-not (ballots l) (contradicts h l) (λ j b. not-8 j (none j b)),
       )
 
-  pub list-6 : some (ballots l) (breaksRule (h .n) l) ≡ true → _≡_ {A = Ticked} (record { number = 6; head = h }) (listened h l)
+  pub list-6 : some (ballots l) (breaksRule (h .n) l) ≡ true
+      → _≡_ {A = Ticked} (record { number = 6; head = h }) (listened h l)
   unfolding listened listNumber firstThatApplies
   list-6 e = simp e
 
-  pub list-7 : some (ballots l) (breaksRule (h .n) l) ≡ false → some (ballots l) (λ i. ownOtherwise h (ballotAt l i)) ≡ true → _≡_ {A = Ticked} (record { number = 7; head = h }) (listened h l)
+  pub list-7 : some (ballots l) (breaksRule (h .n) l) ≡ false
+      → some (ballots l) (λ i. ownOtherwise h (ballotAt l i)) ≡ true
+      → _≡_ {A = Ticked} (record { number = 7; head = h }) (listened h l)
   unfolding listened listNumber firstThatApplies
   list-7 e q = simp (e, q)
 
   -- one is, but by neither 6 nor 7
-  pub list-8 : (at : ℕ) → at < ballots l → refused h l at ≡ true → some (ballots l) (breaksRule (h .n) l) ≡ false → some (ballots l) (λ i. ownOtherwise h (ballotAt l i)) ≡ false → _≡_ {A = Ticked} (record { number = 8; head = h }) (listened h l)
+  pub list-8 : (at : ℕ) → at < ballots l → refused h l at ≡ true → some (ballots l) (breaksRule (h .n) l) ≡ false
+      → some (ballots l) (λ i. ownOtherwise h (ballotAt l i)) ≡ false
+      → _≡_ {A = Ticked} (record { number = 8; head = h }) (listened h l)
   unfolding refused listened listNumber firstThatApplies
   list-8 at b r e q =
       let here : contradicts h l at ≡ true = left (breaksRule (h .n) l at) (ownOtherwise h (ballotAt l at)) (contradicts h l at) (not-some (ballots l) (breaksRule (h .n) l) e at b) (not-some (ballots l) (λ i. ownOtherwise h (ballotAt l i)) q at b) r in
@@ -116,8 +123,10 @@ module _ (h : Head) (l : List ℕ) where
   highest-moved = go (moves h l)
     where
       go : Moves h l → highest h l (ballots l) ≡ moved h l .phase
-      go (stays q f) = omega (arith, highest-least h l (ballots l), highest-within h l (ballots l) (h .phase) (omega arith) f, ap (λ (k : Head). k .phase) q)
-      go (copies i b q u f) = omega (arith, highest-most h l (ballots l) i b, highest-within h l (ballots l) (ballotAt l i .phase) (omega arith) f, ap (λ (k : Head). k .phase) q)
+      go (stays q f) =
+          omega (arith, highest-least h l (ballots l), highest-within h l (ballots l) (h .phase) (omega arith) f, ap (λ (k : Head). k .phase) q)
+      go (copies i b q u f) =
+          omega (arith, highest-most h l (ballots l) i b, highest-within h l (ballots l) (ballotAt l i .phase) (omega arith) f, ap (λ (k : Head). k .phase) q)
 
   highest-above : ltb (h .phase) (highest h l (ballots l)) ≡ some (ballots l) above
   highest-above = go (moves h l)
@@ -132,11 +141,13 @@ module _ (h : Head) (l : List ℕ) where
 
   pub moved-ahead : h .phase < highest h l (ballots l) → copying h (ballotAt l (leader l)) ≡ moved h l
   unfolding moved
-  moved-ahead b = sym (ap (λ (t : Bool). cond t (copying h (ballotAt l (leader l))) h) (sym highest-above ∙ lt-ltb (h .phase) (highest h l (ballots l)) b))
+  moved-ahead b =
+      sym (ap (λ (t : Bool). cond t (copying h (ballotAt l (leader l))) h) (sym highest-above ∙ lt-ltb (h .phase) (highest h l (ballots l)) b))
 
   pub moved-not : highest h l (ballots l) ≤ h .phase → h ≡ moved h l
   unfolding moved
-  moved-not b = sym (ap (λ (t : Bool). cond t (copying h (ballotAt l (leader l))) h) (sym highest-above ∙ le-ltb (h .phase) (highest h l (ballots l)) b))
+  moved-not b =
+      sym (ap (λ (t : Bool). cond t (copying h (ballotAt l (leader l))) h) (sym highest-above ∙ le-ltb (h .phase) (highest h l (ballots l)) b))
 
   pub leader-there : h .phase < highest h l (ballots l) → leader l < ballots l
   leader-there b = go (moves h l)
@@ -152,16 +163,19 @@ some-or k a b =
     means-same (means-as to from (means-or (means-some (λ j. means-self (a j))) (means-some (λ j. means-self (b j)))))
     (means-some (λ j. means-or (means-self (a j)) (means-self (b j))))
   where
-    to : ((j : ℕ) × (j < k) × (a j ≡ true)) ⊎ ((j : ℕ) × (j < k) × (b j ≡ true)) → (j : ℕ) × (j < k) × ((a j ≡ true) ⊎ (b j ≡ true))
+    to : ((j : ℕ) × (j < k) × (a j ≡ true)) ⊎ ((j : ℕ) × (j < k) × (b j ≡ true))
+        → (j : ℕ) × (j < k) × ((a j ≡ true) ⊎ (b j ≡ true))
     to (inl r) = (r .0, r .1, inl (r .2))
     to (inr r) = (r .0, r .1, inr (r .2))
 
-    from : (j : ℕ) × (j < k) × ((a j ≡ true) ⊎ (b j ≡ true)) → ((j : ℕ) × (j < k) × (a j ≡ true)) ⊎ ((j : ℕ) × (j < k) × (b j ≡ true))
+    from : (j : ℕ) × (j < k) × ((a j ≡ true) ⊎ (b j ≡ true))
+        → ((j : ℕ) × (j < k) × (a j ≡ true)) ⊎ ((j : ℕ) × (j < k) × (b j ≡ true))
     from (j, m, inl e) = inl (j, m, e)
     from (j, m, inr e) = inr (j, m, e)
 
 -- two codes for each value
-two-codes : (v : Value) (b : Ballot) → eqb (code b) (valueCode v * 2) || eqb (code b) (valueCode v * 2 + 1) ≡ sameValue (b .value) v
+two-codes : (v : Value) (b : Ballot)
+    → eqb (code b) (valueCode v * 2) || eqb (code b) (valueCode v * 2 + 1) ≡ sameValue (b .value) v
 two-codes v b =
     means-same
     (means-as to from (means-or (means-eq (code b) (valueCode v * 2)) (means-eq (code b) (valueCode v * 2 + 1))))
@@ -179,9 +193,12 @@ two-codes v b =
         go (no n) = inr (omega (arith, n, status-low (b .status)))
 
 -- who said a value, decided or not
-said-value : (l : List ℕ) (k p : ℕ) (v : Value) (s : ℕ) → some k (isSaid l p (valueCode v * 2) s) || some k (isSaid l p (valueCode v * 2 + 1) s) ≡ some k (λ i. says p v s (ballotAt l i))
+said-value : (l : List ℕ) (k p : ℕ) (v : Value) (s : ℕ)
+    → some k (isSaid l p (valueCode v * 2) s) || some k (isSaid l p (valueCode v * 2 + 1) s) ≡ some k (λ i. says p v s (ballotAt l i))
 unfolding says
-said-value l k p v s = some-or k (isSaid l p (valueCode v * 2) s) (isSaid l p (valueCode v * 2 + 1) s) ∙ ap (some k) (fun-ext (λ j. both (eqb (ballotAt l j .phase) p) (eqb (ballotAt l j .sender) s) (eqb (code (ballotAt l j)) (valueCode v * 2)) (eqb (code (ballotAt l j)) (valueCode v * 2 + 1)) ∙ ap (λ (t : Bool). eqb (ballotAt l j .phase) p && (eqb (ballotAt l j .sender) s && t)) (two-codes v (ballotAt l j))))
+said-value l k p v s =
+    some-or k (isSaid l p (valueCode v * 2) s) (isSaid l p (valueCode v * 2 + 1) s)
+    ∙ ap (some k) (fun-ext (λ j. both (eqb (ballotAt l j .phase) p) (eqb (ballotAt l j .sender) s) (eqb (code (ballotAt l j)) (valueCode v * 2)) (eqb (code (ballotAt l j)) (valueCode v * 2 + 1)) ∙ ap (λ (t : Bool). eqb (ballotAt l j .phase) p && (eqb (ballotAt l j .sender) s && t)) (two-codes v (ballotAt l j))))
   where
     both : (a b x y : Bool) → (a && (b && x)) || (a && (b && y)) ≡ a && (b && (x || y))
     both true true x y = refl
@@ -199,7 +216,8 @@ module _ (h : Head) (l : List ℕ) (look : Look) (is : Looks h l look) (end : lo
   at-end = is .2 ∙ ap (lookAt h l) end
 
   -- whom the head hears with a value
-  heard-with : (v : Value) (x a b : ℕ) → a ≡ saw (valueCode v * 2) → ((s : ℕ) → s < 32 → member s b ≡ some (ballots l) (isSaid l (look .phase) (valueCode v * 2 + 1) s))
+  heard-with : (v : Value) (x a b : ℕ) → a ≡ saw (valueCode v * 2)
+      → ((s : ℕ) → s < 32 → member s b ≡ some (ballots l) (isSaid l (look .phase) (valueCode v * 2 + 1) s))
       → setOf 32 (λ s. member s x || (member s a || member s b)) ≡ setOf 32 (λ s. member s x || some (ballots l) (λ i. says (look .phase) v s (ballotAt l i)))
   heard-with v x a b ea eb =
       setOf-is 32 _ _ (setOf-lt 32 _)
@@ -221,7 +239,9 @@ module _ (h : Head) (l : List ℕ) (look : Look) (is : Looks h l look) (end : lo
 
   pub shown-gathered : (g : Head) → g ≡ moved h l → shown g look ≡ gathered h l
   unfolding gathered
-  shown-gathered g e = shown-added g (sym (sees h l (ballots l) look at-end .0) ∙ highest-moved h l ∙ sym (ap (λ (k : Head). k .phase) e)) ∙ ap (λ (k : Head). added k l) e
+  shown-gathered g e =
+      shown-added g (sym (sees h l (ballots l) look at-end .0) ∙ highest-moved h l ∙ sym (ap (λ (k : Head). k .phase) e))
+      ∙ ap (λ (k : Head). added k l) e
 
   pub look-phase : highest h l (ballots l) ≡ look .phase
   look-phase = sees h l (ballots l) look at-end .0
@@ -229,14 +249,16 @@ module _ (h : Head) (l : List ℕ) (look : Look) (is : Looks h l look) (end : lo
 -- ---- no ballots
 
 small : (h : Head) → Sound h → (v : Value) → heard h v < 2 ^ 32
-small h a v = ltb-true (heard h v) (2 ^ 32) (means-within 32 (heard h v) .1 (λ s m. omega (arith, a .members v s m, a .heads .1)))
+small h a v =
+    ltb-true (heard h v) (2 ^ 32) (means-within 32 (heard h v) .1 (λ s m. omega (arith, a .members v s m, a .heads .1)))
 
 pub empty-heard : (h : Head) (l : List ℕ) → Sound h → length l ≡ 0 → h ≡ gathered h l
 unfolding gathered added heardWith
 empty-heard h l a e =
     simp (← moved-not h l (highest-within h l (ballots l) (h .phase) (omega arith) (λ j b. absurd (omega arith))), ← same Zero, ← same One, ← same Blank)
   where
-    same : (v : Value) → heard h v ≡ setOf 32 (λ s. member s (heard h v) || some (ballots l) (λ i. says (h .phase) v s (ballotAt l i)))
+    same : (v : Value)
+        → heard h v ≡ setOf 32 (λ s. member s (heard h v) || some (ballots l) (λ i. says (h .phase) v s (ballotAt l i)))
     same v =
         none-heard (heard h v) (λ s i. says (h .phase) v s (ballotAt l i)) (small h a v)
         ∙ ap (λ (k : ℕ). setOf 32 (λ s. member s (heard h v) || some k (λ i. says (h .phase) v s (ballotAt l i)))) (omega arith)

@@ -41,10 +41,22 @@ Sees h l k p listed elsewhere said =
 
 abbrev pub lookWith : ℕ → ℕ → ℕ → ℕ → List ℕ → Look
 lookWith k p listed elsewhere said =
-    record { next = k; phase = p; listed = listed; elsewhere = elsewhere; zeros = getD said 0 0; «zeros_decided» = getD said 1 0; ones = getD said 2 0; «ones_decided» = getD said 3 0; blanks = getD said 4 0 }
+    record {
+      next =
+          k;
+      phase = p;
+      listed = listed;
+      elsewhere = elsewhere;
+      zeros = getD said 0 0;
+      «zeros_decided» = getD said 1 0;
+      ones = getD said 2 0;
+      «ones_decided» = getD said 3 0;
+      blanks = getD said 4 0;
+    }
 
 module _ (h : Head) (l : List ℕ) where
-  pub sees : (k : ℕ) (look : Look) → look ≡ lookAt h l k → Sees h l k (look .phase) (look .listed) (look .elsewhere) (saidOf look)
+  pub sees : (k : ℕ) (look : Look) → look ≡ lookAt h l k
+      → Sees h l k (look .phase) (look .listed) (look .elsewhere) (saidOf look)
   unfolding lookAt
   sees k look e =
       let p : highest h l k ≡ look .phase = sym (ap (λ (x : Look). x .phase) e) in (
@@ -59,7 +71,8 @@ module _ (h : Head) (l : List ℕ) where
             (ap (λ (x : Look). x .blanks) e ∙ ap (λ (q : ℕ). saidIn l k q 4) p),
       )
 
-  pub seen : (k p listed elsewhere : ℕ) (said : List ℕ) → Sees h l k p listed elsewhere said → lookWith k p listed elsewhere said ≡ lookAt h l k
+  pub seen : (k p listed elsewhere : ℕ) (said : List ℕ) → Sees h l k p listed elsewhere said
+      → lookWith k p listed elsewhere said ≡ lookAt h l k
   unfolding lookAt
   seen k p listed elsewhere said s =
       simp (s .0, s .1, s .2, s .3 0 (lit< tt), s .3 1 (lit< tt), s .3 2 (lit< tt), s .3 3 (lit< tt), s .3 4 (lit< tt))
@@ -79,7 +92,8 @@ module _ (h : Head) (l : List ℕ) where
 
   module _ (i p listed elsewhere : ℕ) (said : List ℕ) (s : Sees h l i p listed elsewhere said) where
     -- with a ballot of the phase
-    pub sees-present : (c a : ℕ) → length said ≡ 5 → ballotAt l i .phase ≡ p → c ≡ code (ballotAt l i) → c < 5 → a ≡ alone (ballotAt l i .sender)
+    pub sees-present : (c a : ℕ) → length said ≡ 5 → ballotAt l i .phase ≡ p → c ≡ code (ballotAt l i) → c < 5
+        → a ≡ alone (ballotAt l i .sender)
         → Sees h l (i + 1) p (bitOr listed a) elsewhere (set said c (bitOr (getD said c 0) a))
     sees-present c a len e d b w = (
       sym (highest-stays h l i (omega (arith, s .0))) ∙ s .0,
@@ -113,7 +127,8 @@ module _ (h : Head) (l : List ℕ) where
         (means-and (means-lt {a = ballotAt l j .phase} {b = p}) (means-eq (ballotAt l j .sender) (ballotAt l j .sender)) .1 (omega (arith, e), refl))
 
     -- with one of a lower phase
-    pub sees-late : (a : ℕ) → ballotAt l i .phase < p → a ≡ alone (ballotAt l i .sender) → Sees h l (i + 1) p listed (bitOr elsewhere a) said
+    pub sees-late : (a : ℕ) → ballotAt l i .phase < p → a ≡ alone (ballotAt l i .sender)
+        → Sees h l (i + 1) p listed (bitOr elsewhere a) said
     sees-late a b w = (
       sym (highest-stays h l i (omega (arith, s .0))) ∙ s .0,
       s .1 ∙ listed-stays l i p b,
@@ -133,12 +148,18 @@ module _ (h : Head) (l : List ℕ) where
               (one most 0) (one most 1) (one most 2) (one most 3) (one most 4),
         )
       where
-        one : ((j : ℕ) → j < i → ballotAt l j .phase ≤ p) → (k : ℕ) → cond (eqb c k) a 0 ≡ saidIn l (i + 1) (ballotAt l i .phase) k
-        one most k = ap (λ (x : ℕ). cond (eqb x k) a 0) d ∙ ap (λ (x : ℕ). cond (eqb (code (ballotAt l i)) k) x 0) w ∙ said-begins l i p (ballotAt l i .phase) most b refl k
+        one : ((j : ℕ) → j < i → ballotAt l j .phase ≤ p) → (k : ℕ)
+            → cond (eqb c k) a 0 ≡ saidIn l (i + 1) (ballotAt l i .phase) k
+        one most k =
+            ap (λ (x : ℕ). cond (eqb x k) a 0) d
+            ∙ ap (λ (x : ℕ). cond (eqb (code (ballotAt l i)) k) x 0) w
+            ∙ said-begins l i p (ballotAt l i .phase) most b refl k
 
   -- a look that goes on to index i
-  pub goes-on : (R : ℕ → ℕ → Type 0) (from : Look) (i p listed elsewhere : ℕ) (said : List ℕ) (look : Look) → look ≡ lookWith i p listed elsewhere said
-      → from .next ≤ i → i ≤ ballots l → NoneBefore i (refused h l) → Sees h l i p listed elsewhere said → (i < ballots l → R (ballotAt l i .phase) p → refused h l i ≡ true)
+  pub goes-on : (R : ℕ → ℕ → Type 0) (from : Look) (i p listed elsewhere : ℕ) (said : List ℕ) (look : Look)
+      → look ≡ lookWith i p listed elsewhere said
+      → from .next ≤ i → i ≤ ballots l → NoneBefore i (refused h l) → Sees h l i p listed elsewhere said
+      → (i < ballots l → R (ballotAt l i .phase) p → refused h l i ≡ true)
       → GoesOn h l R from look
   goes-on R from i p listed elsewhere said look e a b none s t =
       subst (GoesOn h l R from) (sym e) ((b, none, seen i p listed elsewhere said s), a, t)
@@ -147,16 +168,20 @@ module _ (h : Head) (l : List ℕ) where
   looks-start look e = subst (Looks h l) (sym e) (omega arith, search-starts (refused h l), look-starts)
 
   -- a stage's word on the ballot that follows, by the highest phase before it
-  stuck-at : (Rel : ℕ → ℕ → Type 0) (x : Look) (k : ℕ) → x ≡ lookAt h l (x .next) → x .next ≡ k → (x .next < ballots l → Rel (ballotAt l (x .next) .phase) (x .phase) → refused h l (x .next) ≡ true)
+  stuck-at : (Rel : ℕ → ℕ → Type 0) (x : Look) (k : ℕ) → x ≡ lookAt h l (x .next) → x .next ≡ k
+      → (x .next < ballots l → Rel (ballotAt l (x .next) .phase) (x .phase) → refused h l (x .next) ≡ true)
       → k < ballots l → Rel (ballotAt l k .phase) (highest h l k) → refused h l k ≡ true
   stuck-at Rel x k is e f b r =
       ap (refused h l) (sym e)
       ∙ f (omega arith) (subst (Rel (ballotAt l (x .next) .phase)) (sees (x .next) x is .0) (subst (λ (m : ℕ). Rel (ballotAt l m .phase) (highest h l m)) (sym e) r))
 
   -- a turn in which no stage takes a ballot has come to the first that is refused
-  pub turn-ends : (look a b c : Look) → look .next < ballots l → GoesOn h l (λ p q. p ≡ q) look a → GoesOn h l (λ p q. p < q) a b → GoesOn h l (λ p q. (c .next ≡ b .next) × (q < p)) b c → c .next ≡ look .next
+  pub turn-ends : (look a b c : Look) → look .next < ballots l → GoesOn h l (λ p q. p ≡ q) look a
+      → GoesOn h l (λ p q. p < q) a b → GoesOn h l (λ p q. (c .next ≡ b .next) × (q < p)) b c → c .next ≡ look .next
       → c ≡ lookAt h l (first (ballots l) (refused h l))
-  turn-ends look a b c m ga gb gc e = gc .0 .2 ∙ ap (lookAt h l) (search-finds (ballots l) (c .next) (refused h l) (gc .0 .1) next (omega arith))
+  turn-ends look a b c m ga gb gc e =
+      gc .0 .2
+      ∙ ap (lookAt h l) (search-finds (ballots l) (c .next) (refused h l) (gc .0 .1) next (omega arith))
     where
       same-a : a .next ≡ c .next
       same-a = omega (arith, ga .1, gb .1, gc .1)
@@ -165,12 +190,16 @@ module _ (h : Head) (l : List ℕ) where
       same-b = omega (arith, ga .1, gb .1, gc .1)
 
       next : refused h l (c .next) ≡ true
-      next = go (decLt (ballotAt l (c .next) .phase) (highest h l (c .next))) (decLt (highest h l (c .next)) (ballotAt l (c .next) .phase))
+      next =
+          go (decLt (ballotAt l (c .next) .phase) (highest h l (c .next))) (decLt (highest h l (c .next)) (ballotAt l (c .next) .phase))
         where
-          go : Dec (ballotAt l (c .next) .phase < highest h l (c .next)) → Dec (highest h l (c .next) < ballotAt l (c .next) .phase) → refused h l (c .next) ≡ true
+          go : Dec (ballotAt l (c .next) .phase < highest h l (c .next))
+              → Dec (highest h l (c .next) < ballotAt l (c .next) .phase) → refused h l (c .next) ≡ true
           go (yes q) d = stuck-at (λ p r. p < r) b (c .next) (gb .0 .2) same-b (gb .2) (omega arith) q
-          go (no q) (yes r) = stuck-at (λ p r. r < p) c (c .next) (gc .0 .2) refl (λ i u. gc .2 i (sym same-b, u)) (omega arith) r
+          go (no q) (yes r) =
+              stuck-at (λ p r. r < p) c (c .next) (gc .0 .2) refl (λ i u. gc .2 i (sym same-b, u)) (omega arith) r
           go (no q) (no r) = stuck-at (λ p r. p ≡ r) a (c .next) (ga .0 .2) same-a (ga .2) (omega arith) (omega arith)
 
-  pub list-ends : (look : Look) → Looks h l look → ballots l ≤ look .next → look ≡ lookAt h l (first (ballots l) (refused h l))
+  pub list-ends : (look : Look) → Looks h l look → ballots l ≤ look .next
+      → look ≡ lookAt h l (first (ballots l) (refused h l))
   list-ends look is b = is .2 ∙ ap (lookAt h l) (search-ends (ballots l) (look .next) (refused h l) (is .1) (is .0) b)

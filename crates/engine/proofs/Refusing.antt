@@ -32,7 +32,8 @@ use Rattle.engine.proofs.Growing.{highest-most, highest-least}
 -- ---- a ballot that breaks no rule
 
 -- the two bounds of its phase tell
-pub breaks-bounds : (n : ℕ) (l : List ℕ) (i p codes statuses : ℕ) → ballotAt l i .phase ≡ p → codes ≡ codesOf (classOf p) → statuses ≡ statusesOf (classOf p)
+pub breaks-bounds : (n : ℕ) (l : List ℕ) (i p codes statuses : ℕ) → ballotAt l i .phase ≡ p
+    → codes ≡ codesOf (classOf p) → statuses ≡ statusesOf (classOf p)
     → breaksRule n l i ≡ not (isWithin n codes statuses l i)
 unfolding breaksRule obeys ballotAt
 breaks-bounds n l i p codes statuses e c t =
@@ -56,17 +57,20 @@ few-codes Even = omega arith
 
 module _ (n : ℕ) (l : List ℕ) (i : ℕ) (stands : breaksRule n l i ≡ false) where
   bounds : isWithin n (codesOf (classOf (ballotAt l i .phase))) (statusesOf (classOf (ballotAt l i .phase))) l i ≡ true
-  bounds = not-false _ (sym (breaks-bounds n l i (ballotAt l i .phase) (codesOf (classOf (ballotAt l i .phase))) (statusesOf (classOf (ballotAt l i .phase))) refl refl refl) ∙ stands)
+  bounds =
+      not-false _ (sym (breaks-bounds n l i (ballotAt l i .phase) (codesOf (classOf (ballotAt l i .phase))) (statusesOf (classOf (ballotAt l i .phase))) refl refl refl) ∙ stands)
 
   pub low-sender : ballotAt l i .sender < n
   unfolding ballotAt
   low-sender = ltb-true (getD l (i * 5) 0) n (and-left (ltb (getD l (i * 5) 0) n) _ bounds)
 
   low-status : getD l (i * 5 + 2) 0 < 2
-  low-status = omega (arith, few-statuses (classOf (ballotAt l i .phase)), ltb-true (getD l (i * 5 + 2) 0) (statusesOf (classOf (ballotAt l i .phase))) (and-left (ltb (getD l (i * 5 + 2) 0) _) _ (and-right (ltb (getD l (i * 5) 0) n) _ bounds)))
+  low-status =
+      omega (arith, few-statuses (classOf (ballotAt l i .phase)), ltb-true (getD l (i * 5 + 2) 0) (statusesOf (classOf (ballotAt l i .phase))) (and-left (ltb (getD l (i * 5 + 2) 0) _) _ (and-right (ltb (getD l (i * 5) 0) n) _ bounds)))
 
   pub low-code : codeAt l i < 5
-  low-code = omega (arith, few-codes (classOf (ballotAt l i .phase)), ltb-true (codeAt l i) (codesOf (classOf (ballotAt l i .phase))) (and-right (ltb (getD l (i * 5 + 2) 0) _) _ (and-right (ltb (getD l (i * 5) 0) n) _ bounds)))
+  low-code =
+      omega (arith, few-codes (classOf (ballotAt l i .phase)), ltb-true (codeAt l i) (codesOf (classOf (ballotAt l i .phase))) (and-right (ltb (getD l (i * 5 + 2) 0) _) _ (and-right (ltb (getD l (i * 5) 0) n) _ bounds)))
 
   -- its codes are those of its value and status, and at most five
   pub code-read : codeAt l i ≡ code (ballotAt l i)
@@ -195,7 +199,8 @@ module _ (h : Head) (l : List ℕ) (i : ℕ) where
       (λ j b. means-false (means-differ (ballotAt l j) (ballotAt l i)) (λ r. never (sym absent ∙ ap (λ (s : ℕ). member s elsewhere) (sym (r .0 .1)) ∙ known j b (r .0 .0) (omega (arith, low-sender (h .n) l i e, f .0, r .0 .1)))))
 
   -- from ahead
-  pub refused-ahead : highest h l i < ballotAt l i .phase → breaksRule (h .n) l i || eqb (ballotAt l i .sender) (h .own) ≡ refused h l i
+  pub refused-ahead : highest h l i < ballotAt l i .phase
+      → breaksRule (h .n) l i || eqb (ballotAt l i .sender) (h .own) ≡ refused h l i
   unfolding refused contradicts ownOtherwise heldOtherwise
   refused-ahead above =
       let apart : earlier ≡ false = some-not i (λ j. differ (ballotAt l j) (ballotAt l i)) (λ j b. means-false (means-differ (ballotAt l j) (ballotAt l i)) (λ r. absurd (omega (arith, highest-most h l i j b, r .0 .0)))) in
@@ -215,16 +220,19 @@ module _ (h : Head) (l : List ℕ) (i : ℕ) (clean : NoneBefore i (refused h l)
   same = isSaid l (ballotAt l i .phase) (code (ballotAt l i)) (ballotAt l i .sender)
 
   -- among those before i, one sender says one thing at a phase
-  one-code : (j k : ℕ) → j < k → k < i → Same (ballotAt l j) (ballotAt l k) → (code (ballotAt l j) ≡ code (ballotAt l k) → ⊥) → ⊥
+  one-code : (j k : ℕ) → j < k → k < i → Same (ballotAt l j) (ballotAt l k)
+      → (code (ballotAt l j) ≡ code (ballotAt l k) → ⊥) → ⊥
   unfolding refused contradicts
   one-code j k a b s n =
       let quiet : some k (λ j. differ (ballotAt l j) (ballotAt l k)) ≡ false = or-left-false _ _ (or-right-false (ownOtherwise h (ballotAt l k)) _ (or-right-false (breaksRule (h .n) l k) _ (clean k b))) in
       never (sym (not-some k (λ j. differ (ballotAt l j) (ballotAt l k)) quiet j a) ∙ means-differ (ballotAt l j) (ballotAt l k) .1 (s, n))
 
   means-here : (j : ℕ) → Means (here j) (Same (ballotAt l j) (ballotAt l i))
-  means-here j = means-and (means-eq (ballotAt l j .phase) (ballotAt l i .phase)) (means-eq (ballotAt l j .sender) (ballotAt l i .sender))
+  means-here j =
+      means-and (means-eq (ballotAt l j .phase) (ballotAt l i .phase)) (means-eq (ballotAt l j .sender) (ballotAt l i .sender))
 
-  means-again : (j : ℕ) → Means (same j) (Same (ballotAt l j) (ballotAt l i) × (code (ballotAt l j) ≡ code (ballotAt l i)))
+  means-again : (j : ℕ)
+      → Means (same j) (Same (ballotAt l j) (ballotAt l i) × (code (ballotAt l j) ≡ code (ballotAt l i)))
   means-again j =
       means-as (λ r. ((r .0, r .1 .0), r .1 .1)) (λ r. (r .0 .0, (r .0 .1, r .1)))
       (means-and (means-eq (ballotAt l j .phase) (ballotAt l i .phase)) (means-and (means-eq (ballotAt l j .sender) (ballotAt l i .sender)) (means-eq (code (ballotAt l j)) (code (ballotAt l i)))))
@@ -233,7 +241,8 @@ module _ (h : Head) (l : List ℕ) (i : ℕ) (clean : NoneBefore i (refused h l)
   OneOf = (j : ℕ) × (j < i) × (Same (ballotAt l j) (ballotAt l i) × (code (ballotAt l j) ≡ code (ballotAt l i) → ⊥))
 
   abbrev Both : Type 0
-  Both = ((j : ℕ) × (j < i) × Same (ballotAt l j) (ballotAt l i)) × ((j : ℕ) × (j < i) × (Same (ballotAt l j) (ballotAt l i) × (code (ballotAt l j) ≡ code (ballotAt l i))) → ⊥)
+  Both =
+      ((j : ℕ) × (j < i) × Same (ballotAt l j) (ballotAt l i)) × ((j : ℕ) × (j < i) × (Same (ballotAt l j) (ballotAt l i) × (code (ballotAt l j) ≡ code (ballotAt l i))) → ⊥)
 
   -- so it differs from an earlier one where its sender is listed at its phase, but not under what it says
   differs : earlier h l i ≡ some i here && not (some i same)
@@ -245,7 +254,8 @@ module _ (h : Head) (l : List ℕ) (i : ℕ) (clean : NoneBefore i (refused h l)
       to : OneOf → Both
       to (j, b, m) = ((j, b, m .0), λ r. clash j (r .0) b (r .1) (m .0) (r .2 .0) (m .1) (r .2 .1))
         where
-          clash : (j k : ℕ) → j < i → k < i → Same (ballotAt l j) (ballotAt l i) → Same (ballotAt l k) (ballotAt l i) → (code (ballotAt l j) ≡ code (ballotAt l i) → ⊥) → code (ballotAt l k) ≡ code (ballotAt l i) → ⊥
+          clash : (j k : ℕ) → j < i → k < i → Same (ballotAt l j) (ballotAt l i) → Same (ballotAt l k) (ballotAt l i)
+              → (code (ballotAt l j) ≡ code (ballotAt l i) → ⊥) → code (ballotAt l k) ≡ code (ballotAt l i) → ⊥
           clash j k a b s t n e = go (decLt j k) (decLt k j)
             where
               go : Dec (j < k) → Dec (k < j) → ⊥
@@ -268,7 +278,10 @@ module _ (h : Head) (l : List ℕ) (i : ℕ) (clean : NoneBefore i (refused h l)
       ap₂ (λ (a b : Bool). a || b) own held
 
   refused-here : breaksRule (h .n) l i ≡ false → (otherwise h l i || some i here) && not (some i same) ≡ refused h l i
-  refused-here e = pick (otherwise h l i) (some i here) (some i same) not-barred ∙ sym (ap (λ (t : Bool). t || otherwise h l i) differs) ∙ refused-parts h l i e
+  refused-here e =
+      pick (otherwise h l i) (some i here) (some i same) not-barred
+      ∙ sym (ap (λ (t : Bool). t || otherwise h l i) differs)
+      ∙ refused-parts h l i e
     where
       pick : (b m s : Bool) → (s ≡ true → b ≡ false) → (b || m) && not s ≡ (m && not s) || b
       pick b m true f = and-never (b || m) ∙ sym (ap₂ (λ (x y : Bool). x || y) (and-never m) (f refl))
@@ -278,7 +291,8 @@ module _ (h : Head) (l : List ℕ) (i : ℕ) (clean : NoneBefore i (refused h l)
       pick false false false f = refl
 
   -- at the look's phase p, by its sets
-  pub refused-present : (p c s barred listed said : ℕ) → s ≡ ballotAt l i .sender → Fits h → breaksRule (h .n) l i ≡ false → ballotAt l i .phase ≡ p → c ≡ code (ballotAt l i)
+  pub refused-present : (p c s barred listed said : ℕ) → s ≡ ballotAt l i .sender → Fits h
+      → breaksRule (h .n) l i ≡ false → ballotAt l i .phase ≡ p → c ≡ code (ballotAt l i)
       → barred ≡ barredFrom h p c → listed ≡ listedIn l i p → said ≡ saidIn l i p c
       → (member s barred || member s listed) && not (member s said) ≡ refused h l i
   refused-present p c x barred listed said z f e q d eb el es =

@@ -134,7 +134,17 @@ lookAt h l k =
 -- before the first ballot; and a look that has gone on to index k, with more senders at its phase or at lower ones
 abbrev pub unlooked : Head → Look
 unlooked h =
-    record { next = 0; phase = h .phase; listed = 0; elsewhere = 0; zeros = 0; «zeros_decided» = 0; ones = 0; «ones_decided» = 0; blanks = 0 }
+    record {
+      next = 0;
+      phase = h .phase;
+      listed = 0;
+      elsewhere = 0;
+      zeros = 0;
+      «zeros_decided» = 0;
+      ones = 0;
+      «ones_decided» = 0;
+      blanks = 0;
+    }
 
 abbrev pub withSaid : Look → ℕ → ℕ → List ℕ → Look
 withSaid look k listed said =
