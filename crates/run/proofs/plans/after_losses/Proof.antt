@@ -42,7 +42,7 @@ returns-2 c = let file = c .before .before .before .before .before .before .args
     let start = c .before .before .section .given .0 .0 in
     let size = c .before .before .section .given .0 .1 .0 in
     c .closed .ensures
-    ∙ ap₂ (λ (number place : ℕ). closed (length file) (c .before .before .before .before .before .before .args .room) (start + size) (record { number = number; place = place; n = known .n; needed = known .needed; rounds = known .rounds; losses = known .losses; coins = start }))
+    ∙ ap₂ (λ (number place : ℕ). closedOf (length file) (c .before .before .before .before .before .before .args .room) (start + size) (record { number = number; place = place; n = known .n; needed = known .needed; rounds = known .rounds; losses = known .losses; coins = start }))
     (c .before .before .before .before .before .before .pre .1 .0) (c .before .before .before .before .before .before .pre .1 .1)
     ∙ next-section _ _ _ _ _ (c .before .before .section .given .1) (c .before .before .before .before .coins .ensures)
 
