@@ -1,5 +1,7 @@
 -- No second answer fits: two answers that both meet a public function's promise are equal. Stated over the promises
--- themselves, as the functions carry them. What is lent here is lent by `&`, through which nothing can be written.
+-- themselves, as the functions carry them. What is lent here is lent by `&`, through which nothing can be written. In
+-- `Post κs a r s`, `κs` are lifetimes, `a` is what the function is handed, `r` its answer and `s` what it leaves in
+-- what it was lent.
 use mathlib.Core.Path.{_≡_}
 use Rattle.rules.proofs.Meaning.Answers.{only}
 use Rattle.rules.proofs.Layouts.Ballots.{one-answer}

@@ -58,16 +58,16 @@ fn ended(head: Head, heard: Head, coin: u8) -> Ticked
         return answer(9, head);
     }
     if !quorum(heard) {
-        return closed(head, heard);
+        return finished(head, heard);
     }
     if 65535 <= heard.phase {
         return answer(10, head);
     }
-    closed(head, risen(heard, coin))
+    finished(head, risen(heard, coin))
 }
 
 // Number 11, or step 4.
-fn closed(head: Head, end: Head) -> Ticked
+fn finished(head: Head, end: Head) -> Ticked
     ensures { λ r. ⌜ r ≡ cond (decidesOtherwise end) (record { number = 11; head = head }) (record { number = 0; head = settledOf end }) ⌝ }
 {
     if decides_otherwise(end) {

@@ -1,6 +1,8 @@
--- No second answer fits: two answers, and two later contents of what was lent, that both meet a public function's promise
--- are equal. For `report` this is stated over the promise itself, as the function carries it. For the two walked functions,
--- `bench` and `run_file`, over what `bench-says` and `run-file-says` read off their promises.
+-- No second answer fits: two answers, and two later contents of what was lent, that both meet a public function's
+-- promise are equal. For `report` this is stated over the promise itself, as the function carries it. For the two
+-- walked functions, `bench` and `run_file`, over what `bench-says` and `run-file-says` read off their promises. In
+-- `Post κs a r s`, `κs` are lifetimes, `a` is what the function is handed, `r` its answer and `s` what it leaves in
+-- what it was lent.
 use mathlib.Core.Path.{_≡_, refl}
 use Prim.Native.Nat.{ℕ}
 use mathlib.Core.List.{List}

@@ -1,5 +1,6 @@
--- No second answer fits: two answers, and two later contents of what was lent, that both meet a public function's promise
--- are equal. Stated over the promises themselves, as the functions carry them.
+-- No second answer fits: two answers, and two later contents of what was lent, that both meet a public function's
+-- promise are equal. Stated over the promises themselves, as the functions carry them. In `Post κs a r s`, `κs` are
+-- lifetimes, `a` is what the function is handed, `r` its answer and `s` what it leaves in what it was lent.
 use mathlib.Core.Path.{_≡_}
 use denote.Ref.{now}
 use Rattle.rules.proofs.Meaning.Answers.{only}

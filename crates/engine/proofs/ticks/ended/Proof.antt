@@ -17,11 +17,11 @@ returns c = c .answer .ensures ∙ ends-9 _ _ _ (sym (c .before .before .both-he
 quorum-requires : tie.Need-quorum-requires
 quorum-requires c κs = search needs
 
-closed-requires : tie.Need-closed-requires
-closed-requires c κs = search needs
+finished-requires : tie.Need-finished-requires
+finished-requires c κs = search needs
 
 returns-2 : tie.Need-returns-2
-returns-2 c = c .closed .ensures ∙ ends _ _ _ _ (sym (c .before .before .before .before .both-heard .ensures) ∙ c .before .before .before .if1 .left) (not-stepped _ _ (sym (c .before .before .quorum .ensures) ∙ not-true _ (c .before .if2 .taken)))
+returns-2 c = c .finished .ensures ∙ ends _ _ _ _ (sym (c .before .before .before .before .both-heard .ensures) ∙ c .before .before .before .if1 .left) (not-stepped _ _ (sym (c .before .before .quorum .ensures) ∙ not-true _ (c .before .if2 .taken)))
 
 answer-requires-2 : tie.Need-answer-requires-2
 answer-requires-2 c κs = search needs
@@ -32,11 +32,11 @@ returns-3 c = c .answer2 .ensures ∙ ends-10 _ _ _ (sym (c .before .before .bef
 risen-requires : tie.Need-risen-requires
 risen-requires c κs = search needs
 
-closed-requires-2 : tie.Need-closed-requires-2
-closed-requires-2 c κs = search needs
+finished-requires-2 : tie.Need-finished-requires-2
+finished-requires-2 c κs = search needs
 
 returns-4 : tie.Need-returns-4
-returns-4 c = c .closed2 .ensures ∙ ends _ _ _ _ (sym (c .before .before .before .before .before .before .before .both-heard .ensures) ∙ c .before .before .before .before .before .before .if1 .left) (has-stepped _ _ _ (sym (c .before .before .before .before .before .quorum .ensures) ∙ not-false _ (c .before .before .before .before .if2 .left)) (c .before .before .if3 .left) (c .before .risen .ensures))
+returns-4 c = c .finished2 .ensures ∙ ends _ _ _ _ (sym (c .before .before .before .before .before .before .before .both-heard .ensures) ∙ c .before .before .before .before .before .before .if1 .left) (has-stepped _ _ _ (sym (c .before .before .before .before .before .quorum .ensures) ∙ not-false _ (c .before .before .before .before .if2 .left)) (c .before .before .if3 .left) (c .before .risen .ensures))
 
 pub ended-spec : {M : Type 1} → statement M
 ended-spec =
@@ -46,10 +46,10 @@ ended-spec =
     answer-requires
     returns
     quorum-requires
-    closed-requires
+    finished-requires
     returns-2
     answer-requires-2
     returns-3
     risen-requires
-    closed-requires-2
+    finished-requires-2
     returns-4)

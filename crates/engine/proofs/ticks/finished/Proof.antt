@@ -1,6 +1,6 @@
 use borrow.Author.Needs.{needs}
-use Rattle.engine.proofs.ticks.closed.Statement.{statement}
-use Rattle.engine.proofs.ticks.closed.Tie as tie
+use Rattle.engine.proofs.ticks.finished.Statement.{statement}
+use Rattle.engine.proofs.ticks.finished.Tie as tie
 
 decides-otherwise-requires : tie.Need-decides-otherwise-requires
 decides-otherwise-requires c κs = search needs
@@ -20,8 +20,8 @@ answer-requires-2 c κs = search needs
 returns-2 : tie.Need-returns-2
 returns-2 c = simp (← c .before .before .before .decides-otherwise .ensures, c .before .before .if1 .left, c .answer2 .ensures, c .before .settled .ensures)
 
-pub closed-spec : {M : Type 1} → statement M
-closed-spec =
+pub finished-spec : {M : Type 1} → statement M
+finished-spec =
     tie.close
     (tie.spec
     decides-otherwise-requires
