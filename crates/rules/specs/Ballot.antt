@@ -15,6 +15,7 @@ use Rattle.rules.specs.declared.Ballot.{Ballot}
 use Rattle.rules.specs.declared.Read.{Read}
 use Rattle.rules.specs.declared.Read.the-variants.{Accepted, Refused}
 use Rattle.rules.specs.Number.{_when_, firstThatApplies}
+use Rattle.rules.specs.Sizes.{ballotBytes, headsLeast, headsMost}
 
 -- "value 0, 1 or 2 (blank)"
 abbrev pub valueCode : Value → ℕ
@@ -49,7 +50,7 @@ encode [] = []
 encode (b ∷ list) = bytesOf b ++ encode list
 
 abbrev pub fiveAt : List ℕ → ℕ → List ℕ
-fiveAt l i = take 5 (drop (i * 5) l)
+fiveAt l i = take ballotBytes (drop (i * ballotBytes) l)
 
 -- each is a byte
 abbrev pub Bytes : List ℕ → Type 0
@@ -58,14 +59,14 @@ Bytes l = (i : ℕ) → getD l i 0 < 256
 -- The ballot that the five bytes at index i of a list of ballots write. A code that is none is read as the
 -- last one: such a ballot breaks a ballot rule, which is tested on its bytes before anything looks at it.
 abbrev pub phaseAt : List ℕ → ℕ → ℕ
-phaseAt l i = getD l (i * 5 + 3) 0 * 256 + getD l (i * 5 + 4) 0
+phaseAt l i = getD l (i * ballotBytes + 3) 0 * 256 + getD l (i * ballotBytes + 4) 0
 
 unfoldable pub ballotAt : List ℕ → ℕ → Ballot
 ballotAt l i =
     record {
-      sender = getD l (i * 5) 0;
-      value = valueOf (getD l (i * 5 + 1) 0);
-      status = statusOf (getD l (i * 5 + 2) 0);
+      sender = getD l (i * ballotBytes) 0;
+      value = valueOf (getD l (i * ballotBytes + 1) 0);
+      status = statusOf (getD l (i * ballotBytes + 2) 0);
       phase = phaseAt l i;
     }
 
@@ -89,16 +90,19 @@ obeys phase value status = allowed (classOf phase) value status
 
 -- 6: "a ballot breaks a ballot rule", the one at index i; "Sender below n."
 unfoldable pub breaksRule : ℕ → List ℕ → ℕ → Bool
-breaksRule n l i = not (ltb (getD l (i * 5) 0) n && obeys (phaseAt l i) (getD l (i * 5 + 1) 0) (getD l (i * 5 + 2) 0))
+breaksRule n l i =
+    let at = i * ballotBytes in
+    not (ltb (getD l at 0) n && obeys (phaseAt l i) (getD l (at + 1) 0) (getD l (at + 2) 0))
 
 -- 1: "n not 2 to 32"
 unfoldable pub notHeads : ℕ → Bool
-notHeads n = not (leb 2 n && leb n 32)
+notHeads n = not (leb headsLeast n && leb n headsMost)
 
 -- "Reading one ballot takes n and the bytes": 1, 5 or 6
 unfoldable pub readNumber : ℕ → List ℕ → ℕ
 readNumber n bytes =
-    firstThatApplies ((1 when notHeads n) ∷ (5 when not (eqb (length bytes) 5)) ∷ (6 when breaksRule n bytes 0) ∷ [])
+    firstThatApplies
+    ((1 when notHeads n) ∷ (5 when not (eqb (length bytes) ballotBytes)) ∷ (6 when breaksRule n bytes 0) ∷ [])
 
 abbrev pub zeroBallot : Ballot
 zeroBallot = record { sender = 0; value = Zero; status = Undecided; phase = 0 }

@@ -17,6 +17,7 @@ use Rattle.rules.specs.Heard.{member, size, heard}
 use Rattle.rules.specs.Head.{decisionFor}
 use Rattle.rules.specs.Tick.{ballots, moved, gathered, stepped}
 use Rattle.rules.specs.Record.{headAt}
+use Rattle.rules.specs.Sizes.{headsLeast, headsMost, ballotBytes, listBytesMost, recordBytes}
 
 infix 40 _exactly-at_ _exactly-when_
 -- a line of the table: a number, and what must hold of the place that is given with it
@@ -40,7 +41,7 @@ Given number place ((k exactly-at Applies) ∷ later) =
 
 -- "n .. 2 to 32"
 abbrev pub Heads : ℕ → Type 0
-Heads n = (2 ≤ n) × (n ≤ 32)
+Heads n = (headsLeast ≤ n) × (n ≤ headsMost)
 
 -- "Ballot rules, by phase", of a phase, a value's code and a status's code
 pub data Obeys (phase value status : ℕ) : Type 0 where
@@ -55,7 +56,9 @@ pub data Obeys (phase value status : ℕ) : Type 0 where
 
 -- "a ballot breaks a ballot rule", the one at index i; "Sender below n."
 abbrev pub Breaks : ℕ → List ℕ → ℕ → Type 0
-Breaks n l i = (getD l (i * 5) 0 < n) × Obeys (phaseAt l i) (getD l (i * 5 + 1) 0) (getD l (i * 5 + 2) 0) → ⊥
+Breaks n l i =
+    let at = i * ballotBytes in
+    (getD l at 0 < n) × Obeys (phaseAt l i) (getD l (at + 1) 0) (getD l (at + 2) 0) → ⊥
 
 -- head s is heard with v
 abbrev pub Hears : Head → Value → ℕ → Type 0
@@ -151,7 +154,7 @@ readTable n bytes =
     -- "reading one ballot: n not 2 to 32"
     (1 exactly-when (Heads n → ⊥))
     -- "one ballot read ..: not five bytes"
-    ∷ (5 exactly-when (length bytes ≡ 5 → ⊥))
+    ∷ (5 exactly-when (length bytes ≡ ballotBytes → ⊥))
     -- "a ballot breaks a ballot rule"
     ∷ (6 exactly-when Breaks n bytes 0)
     ∷ []
@@ -162,7 +165,7 @@ laterTable h l coin =
     -- "coin above 1, even if not needed"
     (4 exactly-when (1 < coin))
     -- "list length not a multiple of 5, or over 320 bytes"
-    ∷ (5 exactly-when ((length l % 5 ≡ 0 → ⊥) ⊎ (320 < length l)))
+    ∷ (5 exactly-when ((length l % ballotBytes ≡ 0 → ⊥) ⊎ (listBytesMost < length l)))
     -- "a ballot breaks a ballot rule"
     ∷ (6 exactly-when SomeBallot l (Breaks (h .n) l))
     -- "a ballot under the head's own number has a higher phase, or the same phase and another value or status"
@@ -191,7 +194,7 @@ sendTable h = (3 exactly-when (Sound h → ⊥)) ∷ []
 -- a record of 20 bytes within the codes that holds a sound head: "Another length or a byte outside these codes makes it
 -- unsound."
 pub record SoundRecord (r : List ℕ) : Type 0 where
-  pub twenty : length r ≡ 20
+  pub twenty : length r ≡ recordBytes
   pub value : getD r 4 0 < 3
   pub status : getD r 5 0 < 2
   pub decision : getD r 6 0 < 3
@@ -202,7 +205,7 @@ abbrev pub startTableFromC : List ℕ → ℕ → ℕ → ℕ → List Row
 startTableFromC r n own proposal =
     startTable n own proposal
     -- "at a start from C, record not 20 bytes"
-    ++ (3 exactly-when (length r ≡ 20 → ⊥))
+    ++ (3 exactly-when (length r ≡ recordBytes → ⊥))
     ∷ []
 
 abbrev pub tickTableFromC : List ℕ → List ℕ → ℕ → List Row
@@ -212,5 +215,5 @@ abbrev pub sendTableFromC : List ℕ → List ℕ → List Row
 sendTableFromC r buffer =
     (3 exactly-when (SoundRecord r → ⊥))
     -- "one ballot .. written: not five bytes"
-    ∷ (5 exactly-when (length buffer ≡ 5 → ⊥))
+    ∷ (5 exactly-when (length buffer ≡ ballotBytes → ⊥))
     ∷ []

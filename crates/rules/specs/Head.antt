@@ -18,6 +18,7 @@ use Rattle.rules.specs.declared.Written.{Written}
 use Rattle.rules.specs.Number.{Line, _when_, firstThatApplies}
 use Rattle.rules.specs.Ballot.{valueCode, valueOf, statusCode, sameValue, bytesOf, obeys, notHeads}
 use Rattle.rules.specs.Heard.{member, apart, within, heard}
+use Rattle.rules.specs.Sizes.{ballotBytes}
 
 -- "A head has: the number of heads n, its own number, phase .., value .., status .., decision .., and three sets of
 -- head numbers": those that it holds under each value
@@ -129,4 +130,5 @@ ballotOf h = record { sender = h .own; value = h .value; status = h .status; pha
 
 -- "writing the ballot of a sound head gives those five bytes, of an unsound one refusal 3 and five zeros"
 unfoldable pub sendOf : Head → Written
-sendOf h = record { number = cond (sound h) 0 3; bytes = cond (sound h) (bytesOf (ballotOf h)) (replicate 5 0) }
+sendOf h =
+    record { number = cond (sound h) 0 3; bytes = cond (sound h) (bytesOf (ballotOf h)) (replicate ballotBytes 0) }

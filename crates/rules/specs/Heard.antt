@@ -9,6 +9,7 @@ use Rattle.rules.specs.declared.Ballot.{Ballot}
 use Rattle.rules.specs.declared.Head.{Head}
 use Rattle.rules.specs.Below.{some, count}
 use Rattle.rules.specs.Ballot.{sameValue}
+use Rattle.rules.specs.Sizes.{headsMost}
 
 -- "lowest bit for head 0": head s is in a set where the set's binary digit at 2 ^ s is 1
 abbrev pub member : ℕ → ℕ → Bool
@@ -21,7 +22,7 @@ setOf (suc k) p = cond (p 0) 1 0 + 2 * setOf k (λ s. p (suc s))
 
 -- how many heads are in a set; there are at most 32
 unfoldable pub size : ℕ → ℕ
-size set = count 32 (λ s. member s set)
+size set = count headsMost (λ s. member s set)
 
 -- "more than n/2": k, "doubled, exceeds n"
 abbrev pub overHalf : ℕ → ℕ → Bool
@@ -29,7 +30,7 @@ overHalf n k = ltb n (k * 2)
 
 -- no head is in both sets
 unfoldable pub apart : ℕ → ℕ → Bool
-apart a b = not (some 32 (λ s. member s a && member s b))
+apart a b = not (some headsMost (λ s. member s a && member s b))
 
 -- all members of a set are below n
 abbrev pub within : ℕ → ℕ → Bool

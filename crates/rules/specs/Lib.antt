@@ -1,5 +1,5 @@
-pub mod Sizes
 pub mod Number
+pub mod Sizes
 pub mod Below
 pub mod Ballot
 pub mod Heard

@@ -12,6 +12,7 @@ use Rattle.rules.specs.Number.{_when_, firstThatApplies}
 use Rattle.rules.specs.Ballot.{valueCode, valueOf, statusCode, statusOf, bytesOf}
 use Rattle.rules.specs.Head.{headWith, decisionCode, sound, startLines, startOf, ballotOf}
 use Rattle.rules.specs.Tick.{tickNumber, tickOf}
+use Rattle.rules.specs.Sizes.{ballotBytes, recordBytes}
 
 -- "4 bytes each, high byte first"
 abbrev pub fourBytes : ℕ → List ℕ
@@ -28,7 +29,8 @@ recordOf h =
 -- "Another length or a byte outside these codes makes it unsound."
 unfoldable pub isRecord : List ℕ → Bool
 isRecord r =
-    eqb (length r) 20 && (ltb (getD r 4 0) 3 && (ltb (getD r 5 0) 2 && (ltb (getD r 6 0) 3 && eqb (getD r 7 0) 0)))
+    eqb (length r) recordBytes
+    && (ltb (getD r 4 0) 3 && (ltb (getD r 5 0) 2 && (ltb (getD r 6 0) 3 && eqb (getD r 7 0) 0)))
 
 unfoldable pub decisionOf : ℕ → Decision
 decisionOf code = cond (eqb code 0) ForZero (cond (eqb code 1) ForOne Unwritten)
@@ -51,7 +53,7 @@ notSound r = not (isRecord r && sound (headAt r))
 -- refused.
 unfoldable pub startNumberFromC : List ℕ → ℕ → ℕ → ℕ → ℕ
 startNumberFromC r n own proposal =
-    firstThatApplies (startLines n own proposal ++ (3 when not (eqb (length r) 20)) ∷ [])
+    firstThatApplies (startLines n own proposal ++ (3 when not (eqb (length r) recordBytes)) ∷ [])
 
 unfoldable pub recordAfterStart : List ℕ → ℕ → ℕ → ℕ → List ℕ
 recordAfterStart r n own proposal =
@@ -67,7 +69,7 @@ recordAfterTick r l coin = cond (eqb (tickNumberFromC r l coin) 0) (recordOf (ti
 -- A ballot from C: "Where a buffer is lent for it, a length other than five is 5, after 3, and either refusal leaves
 -- every byte of that buffer zero."
 unfoldable pub sendNumberFromC : List ℕ → List ℕ → ℕ
-sendNumberFromC r buffer = firstThatApplies ((3 when notSound r) ∷ (5 when not (eqb (length buffer) 5)) ∷ [])
+sendNumberFromC r buffer = firstThatApplies ((3 when notSound r) ∷ (5 when not (eqb (length buffer) ballotBytes)) ∷ [])
 
 unfoldable pub bufferAfterSend : List ℕ → List ℕ → List ℕ
 bufferAfterSend r buffer =

@@ -16,6 +16,7 @@ use Rattle.rules.specs.Tick.{ballots, gathered, tickNumber, tickOf}
 use Rattle.rules.specs.Record.{recordAfterStart, recordAfterTick}
 use Rattle.rules.specs.History.{Handed}
 use Rattle.rules.specs.Given.{Heads, WrittenDecision, Quorum}
+use Rattle.rules.specs.Sizes.{ballotBytes, ballotsMost}
 
 -- n heads, and what each proposes
 pub record Vote : Type 0 where
@@ -60,8 +61,8 @@ Sent vote (e ∷ events) b = ((s : ℕ) × (s < vote .n) × (b ≡ ballotOf (hea
 pub record Allowed (vote : Vote) (events : List Event) (e : Event) : Type 0 where
   pub head : e .head < vote .n
   -- "lists of at most 64 ballots"
-  pub whole : length (e .bytes) % 5 ≡ 0
-  pub few : ballots (e .bytes) ≤ 64
+  pub whole : length (e .bytes) % ballotBytes ≡ 0
+  pub few : ballots (e .bytes) ≤ ballotsMost
   -- "that these heads sent earlier in the vote"
   pub sent : (i : ℕ) → i < ballots (e .bytes) → (b : Ballot) × Sent vote events b × (fiveAt (e .bytes) i ≡ bytesOf b)
   -- "any coin bits"

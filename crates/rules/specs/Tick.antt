@@ -19,10 +19,11 @@ use Rattle.rules.specs.Ballot.{valueOf, sameValue, sameStatus, ballotAt,
 use Rattle.rules.specs.Heard.{member, setOf, size, overHalf, heard, says}
 use Rattle.rules.specs.Choice.{ahead, bitWith}
 use Rattle.rules.specs.Head.{headWith, nobody, decisionFor, isDecided, isWritten, decisionIsValue, anyHeard, standsUnder, sound, ballotOf}
+use Rattle.rules.specs.Sizes.{headsMost, ballotBytes, listBytesMost}
 
 -- how many ballots a list of bytes holds
 abbrev pub ballots : List ℕ → ℕ
-ballots l = length l / 5
+ballots l = length l / ballotBytes
 
 -- ---- Steps 1 and 2
 
@@ -40,7 +41,8 @@ moved h l = cond (some (ballots l) (λ i. ltb (h .phase) (ballotAt l i .phase)))
 
 -- the set of v with the senders of all ballots of the head's phase that say v; "Equal repeats count once."
 unfoldable pub heardWith : Head → List ℕ → Value → ℕ
-heardWith h l v = setOf 32 (λ s. member s (heard h v) || some (ballots l) (λ i. says (h .phase) v s (ballotAt l i)))
+heardWith h l v =
+    setOf headsMost (λ s. member s (heard h v) || some (ballots l) (λ i. says (h .phase) v s (ballotAt l i)))
 
 -- Step 1: "Add the ballots to what was heard."
 unfoldable pub added : Head → List ℕ → Head
@@ -89,7 +91,7 @@ settled h = headWith (h .n) (h .own) (h .phase) (h .value) (h .status) (decision
 
 -- 5: "list length not a multiple of 5, or over 320 bytes"
 unfoldable pub notList : List ℕ → Bool
-notList l = not (eqb (length l % 5) 0) || ltb 320 (length l)
+notList l = not (eqb (length l % ballotBytes) 0) || ltb listBytesMost (length l)
 
 -- the same value and status
 unfoldable pub sameState : Ballot → Ballot → Bool
