@@ -1,7 +1,8 @@
 // One ballot: the ballot rules, and reading it from its bytes.
 ghost use mathlib.Core.Path.{_≡_};
 ghost use Prim.Native.Nat.{_<_};
-ghost use Rattle.rules.specs.Ballot.{classOf, allowed as allowedOf, obeys as obeysOf, breaksRule, readNumber, readBallot, numberRead, ballotRead};
+ghost use Rattle.rules.specs.Ballot.{classOf, allowed as allowedOf, obeys as obeysOf, breaksRule};
+ghost use Rattle.rules.specs.Ballot.{readNumber, readBallot, numberRead, ballotRead};
 ghost use Rattle.rules.specs.Tick.{ballots as ballotsOf};
 use codes::BALLOT_BYTES;
 use codes::PHASE_HIGH;

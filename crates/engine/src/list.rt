@@ -4,7 +4,8 @@ ghost use mathlib.Core.Bool.{false, cond, _||_};
 ghost use Prim.Native.Nat.{ℕ, _<_, _≤_};
 ghost use Rattle.rules.specs.Below.{first};
 ghost use Rattle.rules.specs.Ballot.{breaksRule, ballotAt};
-ghost use Rattle.rules.specs.Tick.{ballots as ballotsOf, leader as leaderOf, copying as copyingOf, sameState, ownOtherwise, differ as differOf, heldOtherwise};
+ghost use Rattle.rules.specs.Tick.{ballots as ballotsOf, leader as leaderOf, copying as copyingOf};
+ghost use Rattle.rules.specs.Tick.{sameState, ownOtherwise, differ as differOf, heldOtherwise};
 ghost use Rattle.rules.specs.Choice.{ahead as aheadOf};
 use crate::ballot::breaks_rule;
 use crate::head::own_ballot;
@@ -38,8 +39,11 @@ pub(crate) fn first_breaking(n: u8, ballots: &[u8], from: usize) -> usize
 
 // The first ballot under the head's own number that is ahead of the head or unlike it.
 pub(crate) fn first_own_otherwise(head: Head, ballots: &[u8], from: usize) -> usize
-    requires { ⌜ (from ≤ ballotsOf (now ballots)) × ((j : ℕ) → j < from → ownOtherwise head (ballotAt (now ballots) j) ≡ false) ⌝ }
-    ensures { λ r. ⌜ r ≡ first (ballotsOf (now (ballots .entry))) (λ i. ownOtherwise head (ballotAt (now (ballots .entry)) i)) ⌝ }
+    requires { ⌜ (from ≤ ballotsOf (now ballots))
+        × ((j : ℕ) → j < from → ownOtherwise head (ballotAt (now ballots) j) ≡ false) ⌝ }
+    ensures { λ r.
+        ⌜ r ≡ first (ballotsOf (now (ballots .entry)))
+        (λ i. ownOtherwise head (ballotAt (now (ballots .entry)) i)) ⌝ }
 {
     let count = ballots.len() / BALLOT_BYTES;
     let mut i = from;
@@ -69,7 +73,8 @@ pub(crate) fn leader(ballots: &[u8]) -> usize
 // The index i where its ballot is ahead of the one at best, else best.
 fn leading(ballots: &[u8], i: usize, best: usize) -> usize
     requires { ⌜ (i < ballotsOf (now ballots)) × (best < ballotsOf (now ballots)) ⌝ }
-    ensures { λ r. ⌜ r ≡ cond (aheadOf (ballotAt (now (ballots .entry)) i) (ballotAt (now (ballots .entry)) best)) i best ⌝ }
+    ensures { λ r.
+        ⌜ r ≡ cond (aheadOf (ballotAt (now (ballots .entry)) i) (ballotAt (now (ballots .entry)) best)) i best ⌝ }
 {
     if ahead(ballots, i, best) { i } else { best }
 }
@@ -108,7 +113,8 @@ fn own_otherwise(head: Head, ballot: Ballot) -> bool
 // The first ballot before index i that differs from the one there.
 pub(crate) fn first_differing(ballots: &[u8], i: usize) -> usize
     requires { ⌜ i < ballotsOf (now ballots) ⌝ }
-    ensures { λ r. ⌜ r ≡ first i (λ j. differOf (ballotAt (now (ballots .entry)) j) (ballotAt (now (ballots .entry)) i)) ⌝ }
+    ensures { λ r.
+        ⌜ r ≡ first i (λ j. differOf (ballotAt (now (ballots .entry)) j) (ballotAt (now (ballots .entry)) i)) ⌝ }
 {
     let mut j: usize = 0;
     while j < i {
@@ -137,7 +143,9 @@ fn differ(ballots: &[u8], j: usize, i: usize) -> bool
 // Whether the ballot at index i is unlike the head under its own number, or unlike what is held.
 pub(crate) fn otherwise(head: Head, ballots: &[u8], i: usize) -> bool
     requires { ⌜ i < ballotsOf (now ballots) ⌝ }
-    ensures { λ r. ⌜ r ≡ ownOtherwise head (ballotAt (now (ballots .entry)) i) || heldOtherwise head (ballotAt (now (ballots .entry)) i) ⌝ }
+    ensures { λ r.
+        ⌜ r ≡ ownOtherwise head (ballotAt (now (ballots .entry)) i)
+        || heldOtherwise head (ballotAt (now (ballots .entry)) i) ⌝ }
 {
     if phase_at(ballots, i) < head.phase {
         return false;

@@ -8,7 +8,8 @@ ghost use Rattle.rules.specs.Below.{first};
 ghost use Rattle.rules.specs.Ballot.{ballotAt, breaksRule};
 ghost use Rattle.rules.specs.Heard.{member as memberOf};
 ghost use Rattle.rules.specs.Tick.{ballots as ballotsOf};
-ghost use Rattle.engine.specs.Look.{refused, lookAt, unlooked as unlookedOf, withSaid, withElsewhere, Fits, Looks, GoesOn, KnownIn};
+ghost use Rattle.engine.specs.Look.{refused, lookAt, unlooked as unlookedOf, withSaid, withElsewhere};
+ghost use Rattle.engine.specs.Look.{Fits, Looks, GoesOn, KnownIn};
 use crate::ballot::breaks_rule;
 use crate::ballot::class;
 use crate::list::first_differing;
@@ -44,7 +45,9 @@ pub struct Look {
 // the highest phase that come next, then the late ones, then one from ahead.
 pub(crate) fn looked(head: Head, ballots: &[u8]) -> Look
     requires { ⌜ Fits head ⌝ }
-    ensures { λ r. ⌜ r ≡ lookAt head (now (ballots .entry)) (first (ballotsOf (now (ballots .entry))) (refused head (now (ballots .entry)))) ⌝ }
+    ensures { λ r.
+        ⌜ r ≡ lookAt head (now (ballots .entry))
+        (first (ballotsOf (now (ballots .entry))) (refused head (now (ballots .entry)))) ⌝ }
 {
     let count = ballots.len() / BALLOT_BYTES;
     let mut look = unlooked(head);
@@ -229,7 +232,9 @@ fn with_ahead(look: Look, head: Head, ballots: &[u8]) -> Look
 // by 7.
 fn is_refused_ahead(head: Head, ballots: &[u8], i: usize) -> bool
     requires { ⌜ i < ballotsOf (now ballots) ⌝ }
-    ensures { λ r. ⌜ r ≡ breaksRule (head .n) (now (ballots .entry)) i || eqb (ballotAt (now (ballots .entry)) i .sender) (head .own) ⌝ }
+    ensures { λ r.
+        ⌜ r ≡ breaksRule (head .n) (now (ballots .entry)) i
+        || eqb (ballotAt (now (ballots .entry)) i .sender) (head .own) ⌝ }
 {
     breaks_rule(head.n as u32, ballots, i) | (sender_at(ballots, i) == head.own)
 }

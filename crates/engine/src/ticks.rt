@@ -4,8 +4,10 @@ ghost use mathlib.Core.Bool.{true, cond};
 ghost use Prim.Native.Nat.{_<_};
 ghost use Rattle.rules.specs.Below.{first};
 ghost use Rattle.rules.specs.Head.{sound as soundOf};
-ghost use Rattle.rules.specs.Tick.{tickOf, notList, bothHeard, decidesOtherwise, settled as settledOf, ballots as ballotsOf, gathered as gatheredOf};
-ghost use Rattle.engine.specs.Look.{listened as listenedOf, ended as endedOf, refused as refusedOf, shown as shownOf, Looks};
+ghost use Rattle.rules.specs.Tick.{tickOf, notList, bothHeard, decidesOtherwise, settled as settledOf};
+ghost use Rattle.rules.specs.Tick.{ballots as ballotsOf, gathered as gatheredOf};
+ghost use Rattle.engine.specs.Look.{listened as listenedOf, ended as endedOf, refused as refusedOf};
+ghost use Rattle.engine.specs.Look.{shown as shownOf, Looks};
 use crate::head::decision_is_value;
 use crate::head::is_decided;
 use crate::head::is_written;
@@ -68,7 +70,9 @@ fn ended(head: Head, heard: Head, coin: u8) -> Ticked
 
 // Number 11, or step 4.
 fn finished(head: Head, end: Head) -> Ticked
-    ensures { λ r. ⌜ r ≡ cond (decidesOtherwise end) (record { number = 11; head = head }) (record { number = 0; head = settledOf end }) ⌝ }
+    ensures { λ r.
+        ⌜ r ≡ cond (decidesOtherwise end)
+        (record { number = 11; head = head }) (record { number = 0; head = settledOf end }) ⌝ }
 {
     if decides_otherwise(end) {
         return answer(11, head);
@@ -94,7 +98,8 @@ fn listened(head: Head, ballots: &[u8]) -> Ticked
 
 // Of a list whose first refused ballot is at that index: 6 or 7 where one there or later gives it, else 8.
 fn refused(head: Head, ballots: &[u8], at: usize) -> Ticked
-    requires { ⌜ (at < ballotsOf (now ballots)) × (at ≡ first (ballotsOf (now ballots)) (refusedOf head (now ballots))) ⌝ }
+    requires { ⌜ (at < ballotsOf (now ballots))
+        × (at ≡ first (ballotsOf (now ballots)) (refusedOf head (now ballots))) ⌝ }
     ensures { λ r. ⌜ r ≡ listenedOf head (now (ballots .entry)) ⌝ }
 {
     let count = ballots.len() / BALLOT_BYTES;
