@@ -19,7 +19,7 @@ use Rattle.file.specs.declared.Plan.{Plan}
 use Rattle.file.specs.Rules.{KeepsEveryRule}
 use Rattle.file.specs.Refusal.{fileRefusals}
 use Rattle.file.specs.Plan.{planFor}
-use Rattle.file.specs.Table.{headOf, startsIn, rowsIn, coinsIn, receivedIn, roundsIn, tableAfter}
+use Rattle.file.specs.Table.{headOf, startsIn, rowsIn, coinsIn, roundsIn, tableAfter}
 use Rattle.file.specs.Vote.{voteFor, channelFor, eventsFor, lostTo}
 use Rattle.file.specs.Figures.{lostIn, boundOf, outcomeOf, Accepts}
 use Rattle.file.specs.Benched.{emptyTable, benchedOf}
@@ -33,7 +33,8 @@ use Rattle.file.proofs.running.TheTable.{table-decides, figure-counts, 
 use Rattle.file.proofs.reading.FirstBytes.{the-first-bytes-decide}
 use Rattle.file.proofs.printing.EqualReports.{equal-reports}
 use Rattle.file.proofs.PrintedCase.{it-prints}
-use Rattle.rules.specs.Round.{LosesNothing}
+use Rattle.rules.specs.Round.{LosesNothing, received}
+use Rattle.rules.specs.Heard.{member}
 
 -- ---- Demand 1
 
@@ -104,7 +105,7 @@ pub no-tick-of-the-bench-is-refused : (file : List ℕ) (table : List Head)
     → s < planFor file table .n
     → let plan = planFor file table in
     let before = roundsIn file plan r (startsIn file (plan .n) table) in
-    let ballots = receivedIn before (fourBytesAt (rowsIn file plan r) (s * 4)) (plan .n) in
+    let ballots = received (headOf before) (λ k. member k (fourBytesAt (rowsIn file plan r) (s * 4))) (plan .n) in
     tickNumber (headOf before s) ballots (getD (coinsIn file plan r) s 0) ≡ 0
 no-tick-of-the-bench-is-refused = table-ticks
 

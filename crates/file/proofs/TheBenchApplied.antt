@@ -25,7 +25,7 @@ use Rattle.file.specs.Section.{countAt}
 use Rattle.file.specs.Rules.{KeepsEveryRule}
 use Rattle.file.specs.Refusal.{fileRefusals}
 use Rattle.file.specs.Plan.{planFor}
-use Rattle.file.specs.Table.{headOf, startsIn, rowsIn, coinsIn, receivedIn, roundsIn, tableAfter}
+use Rattle.file.specs.Table.{headOf, startsIn, rowsIn, coinsIn, roundsIn, tableAfter}
 use Rattle.file.specs.Vote.{voteFor, channelFor, eventsFor, lostTo}
 use Rattle.file.specs.Figures.{lostIn, boundOf, goodIn, outcomeOf, Accepts}
 use Rattle.file.specs.Benched.{emptyTable, benchedOf}
@@ -47,7 +47,7 @@ use Rattle.file.proofs.TheBench.{the-figure-counts-what-the-channel-los
 use Rattle.file.proofs.TheBench.{the-good-rounds-lose-at-most-the-bound}
 use Rattle.file.proofs.TheBench.{equal-reports-come-from-equal-figures, the-first-41002-bytes-decide}
 use Rattle.file.proofs.TheBench.{the-printed-case-prints}
-use Rattle.rules.specs.Round.{LosesNothing}
+use Rattle.rules.specs.Round.{LosesNothing, received}
 use Rattle.rules.proofs.Meaning.Given.{given-applies}
 
 -- ---- Demand 1
@@ -172,7 +172,7 @@ head-2-is-the-votes = the-table-holds-the-heads then-all-is-lost emptyTable acce
 -- its last tick
 pub the-last-tick-is-accepted : let plan = planFor then-all-is-lost emptyTable in
     let before = roundsIn then-all-is-lost plan 2 (startsIn then-all-is-lost (plan .n) emptyTable) in
-    let ballots = receivedIn before (fourBytesAt (rowsIn then-all-is-lost plan 2) (2 * 4)) (plan .n) in
+    let ballots = received (headOf before) (λ k. member k (fourBytesAt (rowsIn then-all-is-lost plan 2) (2 * 4))) (plan .n) in
     tickNumber (headOf before 2) ballots (getD (coinsIn then-all-is-lost plan 2) 2 0) ≡ 0
 the-last-tick-is-accepted =
     no-tick-of-the-bench-is-refused then-all-is-lost emptyTable accepts 2 2

@@ -1,17 +1,16 @@
 -- The bench in a lent table of heads: the starts, the rounds, and what the table holds after a run. Document 01, 'Run
 -- file and bench'.
 use Prim.Native.Nat.{ℕ, zero, suc, _+_, _*_}
-use mathlib.Core.List.{List, [], _++_}
-use mathlib.Core.Bool.{cond}
+use mathlib.Core.List.{List}
 use lib.ListN.{getD, set, take, drop}
 use Rattle.rules.specs.declared.Head.{Head}
-use Rattle.rules.specs.Ballot.{bytesOf}
 use Rattle.rules.specs.Heard.{member}
-use Rattle.rules.specs.Head.{zeroHead, startOf, ballotOf}
+use Rattle.rules.specs.Head.{zeroHead, startOf}
 use Rattle.rules.specs.Tick.{tickOf}
 use Rattle.rules.specs.Record.{fourBytesAt}
 use Rattle.file.specs.declared.Plan.{Plan}
 use Rattle.file.specs.Plan.{planFor}
+use Rattle.rules.specs.Round.{received}
 
 -- the head at a place of the table
 abbrev pub headOf : List Head → ℕ → Head
@@ -34,17 +33,11 @@ rowsIn file plan r = take (plan .n * 4) (drop (plan .losses + r * plan .n * 4) f
 abbrev pub coinsIn : List ℕ → Plan → ℕ → List ℕ
 coinsIn file plan r = take (plan .n) (drop (plan .coins + r * plan .n) file)
 
--- "Bit s set: the ballot of head s is lost to it.": the ballots of heads 0 to k - 1 that are not lost, "in sender
--- order"
-abbrev pub receivedIn : List Head → ℕ → ℕ → List ℕ
-receivedIn table lost zero = []
-receivedIn table lost (suc k) = receivedIn table lost k ++ cond (member k lost) [] (bytesOf (ballotOf (headOf table k)))
-
 -- "each head .. is ticked with those not lost to it .. and its coin of that round"; "one per receiver in number
 -- order"
 abbrev pub tickedIn : ℕ → List ℕ → List ℕ → List Head → ℕ → Head
 tickedIn n rows coins table s =
-    tickOf (headOf table s) (receivedIn table (fourBytesAt rows (s * 4)) n) (getD coins s 0) .head
+    tickOf (headOf table s) (received (headOf table) (λ k. member k (fourBytesAt rows (s * 4))) n) (getD coins s 0) .head
 
 -- "A round: all n ballots are formed first", from the table as it was before the round
 unfoldable pub roundIn : ℕ → List ℕ → List ℕ → List Head → List Head

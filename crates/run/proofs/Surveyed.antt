@@ -20,11 +20,12 @@ use Rattle.rules.specs.Tick.{tickOf}
 use Rattle.rules.specs.Record.{fourBytesAt}
 use Rattle.rules.proofs.Counting.Below.{count-le}
 use Rattle.rules.proofs.Counting.Sets.{member-none}
-use Rattle.file.specs.Table.{headOf, placed, receivedIn, tickedIn, roundIn}
+use Rattle.file.specs.Table.{headOf, placed, tickedIn, roundIn}
 use Rattle.file.specs.Figures.{decidedIn}
 use Rattle.run.specs.declared.heads.Survey.{Survey}
 use Rattle.run.specs.Survey.{noted, surveyOf, receivedFrom, tickedBy, tickedAll}
 use Rattle.run.proofs.Parts.{sets-before, sets-at}
+use Rattle.rules.specs.Round.{received}
 
 -- ---- how many are decided
 
@@ -67,7 +68,7 @@ shows-ballot (suc k) table s h small = go (ℕ-discrete s k) (shows-ballot k tab
     go (no e) f = sets-before five before 5 (s * 5) (k * 5) (omega (arith, e)) ∙ f (omega (arith, e)) (omega arith)
 
 -- so what is received from the survey is what is received from the heads
-received-is : (n : ℕ) (table : List Head) (lost k : ℕ) → k ≤ n → n ≤ 32 → receivedFrom (surveyOf n table .ballots) lost k ≡ receivedIn table lost k
+received-is : (n : ℕ) (table : List Head) (lost k : ℕ) → k ≤ n → n ≤ 32 → receivedFrom (surveyOf n table .ballots) lost k ≡ received (headOf table) (λ s. member s lost) k
 unfolding receivedFrom
 received-is n table lost zero h small = refl
 received-is n table lost (suc k) h small =

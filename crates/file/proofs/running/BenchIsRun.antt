@@ -19,7 +19,7 @@ use Rattle.rules.specs.Round.{received, ticksOfRound}
 use Rattle.rules.proofs.Rounds.Rounds.{round-is-run, untouched, ticked-once}
 use Rattle.rules.proofs.Undivided.Phases.{no-early-refusal}
 use Rattle.file.specs.declared.Plan.{Plan}
-use Rattle.file.specs.Table.{headOf, startIn, startsIn, rowsIn, coinsIn, receivedIn, tickedIn, roundIn, roundsIn}
+use Rattle.file.specs.Table.{headOf, startIn, startsIn, rowsIn, coinsIn, tickedIn, roundIn, roundsIn}
 use Rattle.file.specs.Vote.{voteIn, channelIn, eventsIn}
 use Rattle.file.proofs.reading.Plans.{RuleByRule}
 use Rattle.file.proofs.running.Placing.{placed-length, placed-at, rounds-length}
@@ -33,8 +33,8 @@ module _ (file : List ℕ) (plan : Plan) (table : List Head) (accepted : RuleByR
       → ((s : ℕ) → s < plan .n → headOf (roundsIn file plan r starts) s
       ≡ headIn (voteIn file plan) (eventsIn file plan r) s)
       → (receiver k : ℕ) → k ≤ plan .n
-      → receivedIn (roundsIn file plan r starts) (fourBytesAt (rowsIn file plan r) (receiver * 4)) k
-      ≡ received (voteIn file plan) (eventsIn file plan r) (channelIn file plan r) receiver k
+      → received (headOf (roundsIn file plan r starts)) (λ k. member k (fourBytesAt (rowsIn file plan r) (receiver * 4))) k
+      ≡ received (headIn (voteIn file plan) (eventsIn file plan r)) ((channelIn file plan r) .lost receiver) k
   received-same r same receiver zero h = refl
   received-same r same receiver (suc k) h =
       ap₂ (λ (list : List ℕ) (head : Head). list
@@ -113,7 +113,7 @@ module _ (file : List ℕ) (plan : Plan) (table : List Head) (accepted : RuleByR
 
   pub bench-tick-accepted : (r s : ℕ) → r < plan .rounds → s < plan .n
       → tickNumber (headOf (roundsIn file plan r starts) s)
-      (receivedIn (roundsIn file plan r starts) (fourBytesAt (rowsIn file plan r) (s * 4)) (plan .n))
+      (received (headOf (roundsIn file plan r starts)) (λ k. member k (fourBytesAt (rowsIn file plan r) (s * 4))) (plan .n))
       (getD (coinsIn file plan r) s 0) ≡ 0
   bench-tick-accepted r s early h =
       ap₂ (λ (head : Head) (list : List ℕ). tickNumber head list (getD (coinsIn file plan r) s 0))

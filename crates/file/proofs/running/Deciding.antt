@@ -43,7 +43,7 @@ module _ (file : List ℕ) (plan : Plan) (table : List Head) (keeps : RuleByRule
       ap (λ (k : Head). k .decision) (ticked-once (voteIn file plan) before (channelIn file plan (suc (suc r)))
       (plan .n) s h)
       ∙ tick-keeps-decision (headIn (voteIn file plan) before s)
-      (received (voteIn file plan) before (channelIn file plan (suc (suc r))) s (plan .n))
+      (received (headIn (voteIn file plan) before) (channelIn file plan (suc (suc r)) .lost s) (plan .n))
       (channelIn file plan (suc (suc r)) .coin s)
       (λ none. bit-written bit low (sym (decides r s h) ∙ none))
       ∙ decides r s h

@@ -16,7 +16,7 @@ use Rattle.rules.specs.Run.{headIn, Run}
 use Rattle.rules.proofs.Demands.{no-two-decisions-differ, each-was-proposed}
 use Rattle.file.specs.declared.Plan.{Plan}
 use Rattle.file.specs.Plan.{planFor}
-use Rattle.file.specs.Table.{headOf, startsIn, rowsIn, coinsIn, receivedIn, roundsIn, tableAfter}
+use Rattle.file.specs.Table.{headOf, startsIn, rowsIn, coinsIn, roundsIn, tableAfter}
 use Rattle.file.specs.Vote.{voteFor, channelFor, eventsFor, lostTo}
 use Rattle.file.specs.Figures.{lostIn, boundOf, outcomeOf, Accepts}
 use Rattle.file.proofs.reading.Plans.{RuleByRule}
@@ -24,7 +24,8 @@ use Rattle.file.proofs.reading.Accepting.{accepted}
 use Rattle.file.proofs.running.BenchIsRun.{heads-are, rounds-are-run, bench-tick-accepted}
 use Rattle.file.proofs.running.Deciding.{rounds-decide}
 use Rattle.file.proofs.running.LostBallots.{rows-count-what-is-lost, good-is}
-use Rattle.rules.specs.Round.{LosesNothing}
+use Rattle.rules.specs.Round.{LosesNothing, received}
+use Rattle.rules.specs.Heard.{member}
 
 module _ (file : List ℕ) (table : List Head) (accepts : Accepts file table) where
   abbrev plan : Plan
@@ -45,7 +46,7 @@ module _ (file : List ℕ) (table : List Head) (accepts : Accepts file table) wh
       → r < plan .rounds
       → s < plan .n
       → let before = roundsIn file plan r (startsIn file (plan .n) table) in
-      let ballots = receivedIn before (fourBytesAt (rowsIn file plan r) (s * 4)) (plan .n) in
+      let ballots = received (headOf before) (λ k. member k (fourBytesAt (rowsIn file plan r) (s * 4))) (plan .n) in
       tickNumber (headOf before s) ballots (getD (coinsIn file plan r) s 0) ≡ 0
   table-ticks r s early h = bench-tick-accepted file plan table keeps r s early h
 

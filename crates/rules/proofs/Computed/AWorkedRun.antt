@@ -54,7 +54,7 @@ abbrev pub earlier : List Event
 earlier = ticksOfRound (twoOfTwo 1) [] (losing []) 1
 
 abbrev pub last : Event
-last = record { head = 1; bytes = received (twoOfTwo 1) [] (losing []) 1 2; coin = 0 }
+last = record { head = 1; bytes = received (headIn (twoOfTwo 1) []) ((losing []) .lost 1) 2; coin = 0 }
 
 pub a-tick-is-accepted : NotRefusedBeforeTheLastPhase (twoOfTwo 1) earlier last
 unfolding computing

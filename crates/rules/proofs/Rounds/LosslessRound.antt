@@ -208,14 +208,14 @@ pub record AllAt (vote : Vote) (events : List Event) (phase : ℕ) (value : ℕ 
 -- after a round that loses nothing no tick was refused, and every head has heard everybody and risen
 pub lossless-round : {vote : Vote} {before : List Event} {phase : ℕ} {value : ℕ → Value} → AllAt vote before phase value
     → (channel : Channel) → LosesNothing vote channel → CoinsAreBits vote channel → (s : ℕ) → s < vote .n
-    → (tickNumber (headIn vote before s) (received vote before channel s (vote .n)) (channel .coin s) ≡ 0)
+    → (tickNumber (headIn vote before s) (received (headIn vote before) (channel .lost s) (vote .n)) (channel .coin s) ≡ 0)
     × (headIn vote (round vote before channel) s ≡ settled (risen (hearing (vote .n) phase value s) (channel .coin s)))
 lossless-round {vote} {before} {phase} {value} all channel none bits s h = (
   rw (all .states s h) (accepted gets),
   ticked-once vote before channel (vote .n) s h ∙ rw (all .states s h) (ticked gets),
 )
   where
-    gets : Gets (vote .n) phase value s (received vote before channel s (vote .n)) (channel .coin s)
+    gets : Gets (vote .n) phase value s (received (headIn vote before) (channel .lost s) (vote .n)) (channel .coin s)
     gets =
         record {
           at = all .at;

@@ -45,7 +45,7 @@ module _ (vote : Vote) (before : List Event) (channel : Channel) (receiver : ℕ
   arriving (suc k) = arriving k ++ cond (channel .lost receiver k) [] (ballotOf (headIn vote before k) ∷ [])
 
   -- the bytes received are theirs
-  pub received-is : (k : ℕ) → received vote before channel receiver k ≡ encode (arriving k)
+  pub received-is : (k : ℕ) → received (headIn vote before) (channel .lost receiver) k ≡ encode (arriving k)
   received-is zero = refl
   received-is (suc k) = ap₂ (λ (a b : List ℕ). a ++ b) (received-is k) (one (channel .lost receiver k)) ∙ sym (encode-append (arriving k) _)
     where
@@ -84,7 +84,7 @@ module _ (vote : Vote) (before : List Event) (channel : Channel) (receiver : ℕ
 
 -- each tick of a round is allowed
 round-allowed : (vote : Vote) (events : List Event) (channel : Channel) → Heads (vote .n) → (s : ℕ) → s < vote .n → channel .coin s < 2
-    → Allowed vote (ticksOfRound vote events channel s) (record { head = s; bytes = received vote events channel s (vote .n); coin = channel .coin s })
+    → Allowed vote (ticksOfRound vote events channel s) (record { head = s; bytes = received (headIn vote events) (channel .lost s) (vote .n); coin = channel .coin s })
 round-allowed vote events channel few s h bit =
     rw (received-is vote events channel s (vote .n))
     (record {
@@ -121,12 +121,12 @@ module _ (vote : Vote) (before : List Event) (channel : Channel) where
   untouched (suc k) s h = rw (ne-eqb k s (λ e. omega arith)) (untouched k s (omega arith))
 
   -- after the round each head has been ticked, from the state that it had before the round
-  pub ticked-once : (k s : ℕ) → s < k → headIn vote (ticksOfRound vote before channel k) s ≡ tickOf (headIn vote before s) (received vote before channel s (vote .n)) (channel .coin s) .head
+  pub ticked-once : (k s : ℕ) → s < k → headIn vote (ticksOfRound vote before channel k) s ≡ tickOf (headIn vote before s) (received (headIn vote before) (channel .lost s) (vote .n)) (channel .coin s) .head
   ticked-once zero s h = absurd (omega arith)
   ticked-once (suc k) s h = go (ℕ-discrete k s) (ticked-once k s)
     where
       After : Head → Type 0
-      After h = h ≡ tickOf (headIn vote before s) (received vote before channel s (vote .n)) (channel .coin s) .head
+      After h = h ≡ tickOf (headIn vote before s) (received (headIn vote before) (channel .lost s) (vote .n)) (channel .coin s) .head
 
       go : Dec (k ≡ s) → (s < k → After (headIn vote (ticksOfRound vote before channel k) s)) → After (headIn vote (ticksOfRound vote before channel (suc k)) s)
       go (yes e) f = rw (eq-eqb k s e, e, untouched s s (omega arith))
@@ -159,13 +159,13 @@ module _ (vote : Vote) (before : List Event) (channel : Channel) (none : LosesNo
           ap (nth (list ++ (b ∷ []))) last ∙ getD-append-seam list b [] zeroBallot ∙ ap (λ (s : ℕ). ballotOf (headIn vote before s)) (sym e)
 
   -- so what is received is n ballots
-  pub lossless-length : length (received vote before channel receiver (vote .n)) ≡ vote .n * 5
+  pub lossless-length : length (received (headIn vote before) (channel .lost receiver) (vote .n)) ≡ vote .n * 5
   lossless-length =
       rw (received-is vote before channel receiver (vote .n))
       (omega (arith, encode-length (arriving vote before channel receiver (vote .n)), all-arrive (vote .n) (omega arith)))
 
   -- and the one at an index is that of the head of that number
-  pub lossless-five : (i : ℕ) → i < vote .n → fiveAt (received vote before channel receiver (vote .n)) i ≡ bytesOf (ballotOf (headIn vote before i))
+  pub lossless-five : (i : ℕ) → i < vote .n → fiveAt (received (headIn vote before) (channel .lost receiver) (vote .n)) i ≡ bytesOf (ballotOf (headIn vote before i))
   lossless-five i h =
       rw (received-is vote before channel receiver (vote .n))
       (encode-five (arriving vote before channel receiver (vote .n)) i (omega (arith, all-arrive (vote .n) (omega arith)))
