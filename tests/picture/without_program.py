@@ -119,6 +119,15 @@ def called(tool, words):
     return ended.returncode, ended.stdout, ended.stderr.decode()
 
 
+def from_folder(tool):
+    """The same where standard input is a folder."""
+    folder = os.open(ROOT, os.O_RDONLY)
+    command = [os.path.join(ROOT, "tools", tool)]
+    ended = subprocess.run(command, stdin=folder, stdout=subprocess.PIPE, stderr=subprocess.PIPE)
+    os.close(folder)
+    return ended.returncode, ended.stdout, ended.stderr.decode()
+
+
 def test_bad_input():
     sample = os.path.join(ROOT, "samples", "%s.run")
     cut_off, no_rounds = sample % "05-head-cut-off", sample % "02-no-rounds"
@@ -137,6 +146,7 @@ def test_bad_input():
         expect("picture %s" % words, called("picture", words), (status, b"", line + "\n"))
         expect("trace %s" % words, called("trace", words), (status, b"", line.replace("picture:", "trace:") + "\n"))
     for tool in "picture", "trace":
+        expect("%s < FOLDER" % tool, from_folder(tool), (2, b"", "%s: standard input: Is a directory\n" % tool))
         status, usage, error = called(tool, ["-h"])
         expect("%s -h" % tool, (status, b"tools/%s [--rounds A-B] FILE" % tool.encode() in usage, error), (0, True, ""))
 
