@@ -13,6 +13,7 @@ use Rattle.codes.proofs.code.value_of.Reads as value-of
 use Rattle.codes.proofs.numbers.four_bytes_of.Reads as four-bytes-of
 use Rattle.codes.proofs.sets.member.Reads as member
 use Rattle.codes.proofs.sets.size.Reads as size
+use Rattle.codes.proofs.sets.lowest.Reads as lowest
 use Rattle.codes.proofs.sets.within.Reads as within
 use Rattle.codes.proofs.sizes.not_heads.Reads as not-heads
 use Rattle.codes.proofs.ballots.ballot_at.Reads as ballot-at
@@ -51,6 +52,9 @@ member-only κs a r r′ s s′ p q = only p q
 
 pub size-only : (κs : _) (a : _) (r r′ : _) (s s′ : _) → size.Post κs a r s → size.Post κs a r′ s′ → r ≡ r′
 size-only κs a r r′ s s′ p q = only p q
+
+pub lowest-only : (κs : _) (a : _) (r r′ : _) (s s′ : _) → lowest.Post κs a r s → lowest.Post κs a r′ s′ → r ≡ r′
+lowest-only κs a r r′ s s′ p q = only p q
 
 pub within-only : (κs : _) (a : _) (r r′ : _) (s s′ : _) → within.Post κs a r s → within.Post κs a r′ s′ → r ≡ r′
 within-only κs a r r′ s s′ p q = only p q

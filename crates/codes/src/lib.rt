@@ -29,6 +29,7 @@ pub use records::head_at;
 pub use records::is_record;
 pub use records::record_of;
 pub use records::zero_head;
+pub use sets::lowest;
 pub use sets::member;
 pub use sets::size;
 pub use sets::within;

@@ -1,5 +1,7 @@
 // Sets of heads, and rows of lost ballots: each is a u32 whose lowest bit is head 0.
 ghost use mathlib.Core.Path.{_≡_};
+ghost use Rattle.rules.specs.Sizes.{headsMost};
+ghost use Rattle.rules.specs.Below.{first};
 ghost use Rattle.rules.specs.Heard.{member as memberOf, size as sizeOf, within as withinOf};
 
 // Whether head s is in the set.
@@ -14,6 +16,13 @@ pub fn size(set: u32) -> u32
     ensures { λ r. ⌜ r ≡ sizeOf set ⌝ }
 {
     u32::count_ones(set)
+}
+
+// The lowest number in the set; 32 where nobody is in it.
+pub fn lowest(set: u32) -> u32
+    ensures { λ r. ⌜ r ≡ first headsMost (λ s. memberOf s set) ⌝ }
+{
+    u32::trailing_zeros(set)
 }
 
 // Whether all heads in the set are below n. In 64 bits, since n may be 32; from 64 up all are.

@@ -1,4 +1,5 @@
 pub mod Below
 pub mod Counting
+pub mod Lowest
 pub mod Sets
 pub mod Truth
