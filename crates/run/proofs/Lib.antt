@@ -5,6 +5,7 @@ pub mod Only
 pub mod Parts
 pub mod Planned
 pub mod Planning
+pub mod Received
 pub mod Reports
 pub mod Surveyed
 pub mod Texts

@@ -1,14 +1,12 @@
 -- Parts of a list of bytes: what a clamped part holds, and ballots of five bytes in it.
 use Prim.Native.Nat.{ℕ, zero, suc, _+_, _-_, _*_, _≤_, _<_, min}
 use mathlib.Core.Path.{_≡_, refl, sym, ap, ap₂, _∙_}
-use mathlib.Core.List.{List, [], _∷_, _++_, append-assoc, append-nil}
-use mathlib.Core.Bool.{Bool, true, false, cond}
+use mathlib.Core.List.{List, [], _∷_, _++_, append-assoc}
 use native.Mathlib.Decide.{decLt}
 use native.Mathlib.Nat.{suc-mul, mul-le-mul, mul-le-mul-right}
 use native.Mathlib.Omega.{arith}
 use lib.ListN.{length, getD, take, drop, set, length-drop, drop-of-length-le}
-use lib.Seq.{getD-take, getD-drop, take-take, drop-drop, take-all, take-length, drop-length, drop-cons, take-append-seam, take-set-le, drop-set-add, take-add, drop-at, sets, sets-eq, length-take-le}
-use Rattle.run.specs.Survey.{keptBytes}
+use lib.Seq.{getD-take, getD-drop, take-take, drop-drop, take-all, take-length, drop-length, drop-cons, take-append-seam, take-set-le, drop-set-add, drop-set-lt, take-add, drop-at, sets, sets-eq, length-take-le}
 
 take-least : (size : ℕ) (xs : List ℕ) → take (min size (length xs)) xs ≡ take size xs
 take-least size xs = go (decLt size (length xs))
@@ -85,6 +83,11 @@ sets-before (v ∷ vs) l many from at h =
     ∙ ap (take many) (drop-set-add from l (at - from) v)
     ∙ take-set-le many (drop from l) (at - from) v (omega arith)
 
+-- and what stands behind them
+pub sets-behind : (vs l : List ℕ) (from at : ℕ) → at + length vs ≤ from → drop from (sets l at vs) ≡ drop from l
+sets-behind [] l from at h = refl
+sets-behind (v ∷ vs) l from at h = sets-behind vs (set l at v) from (suc at) (omega arith) ∙ drop-set-lt from l at v (omega arith)
+
 -- and are found where they were put
 pub sets-at : (vs l : List ℕ) (at : ℕ) → at + length vs ≤ length l → take (length vs) (drop at (sets l at vs)) ≡ vs
 sets-at vs l at h =
@@ -101,10 +104,10 @@ five-is l at h =
     let four : at + 4 ≡ suc (suc (suc (suc at))) = omega arith in
     rw (one, two, three, four) (sym (ap (take 5) (drop-cons l at 0 (omega arith) ∙ ap (λ (r : List ℕ). getD l at 0 ∷ r) (drop-cons l (suc at) 0 (omega arith) ∙ ap (λ (r : List ℕ). getD l (suc at) 0 ∷ r) (drop-cons l (suc (suc at)) 0 (omega arith) ∙ ap (λ (r : List ℕ). getD l (suc (suc at)) 0 ∷ r) (drop-cons l (suc (suc (suc at))) 0 (omega arith) ∙ ap (λ (r : List ℕ). getD l (suc (suc (suc at))) 0 ∷ r) (drop-cons l (suc (suc (suc (suc at)))) 0 (omega arith))))))))
 
--- a list of ballots and one more, kept or lost
-pub kept-or-lost : (five l : List ℕ) (at : ℕ) (lost : Bool) → length five ≡ 5 → at + 5 ≤ length l → take (at + keptBytes lost) (sets l at five) ≡ take at l ++ cond lost [] five
-kept-or-lost five l at true many h =
-    let none : at + 0 ≡ at = omega arith in
-    ap (λ (k : ℕ). take k (sets l at five)) none ∙ sets-before five l at 0 at (omega arith) ∙ sym (append-nil (take at l))
-kept-or-lost five l at false many h =
+pub five-whole : (five : List ℕ) → length five ≡ 5 → getD five 0 0 ∷ getD five 1 0 ∷ getD five 2 0 ∷ getD five 3 0 ∷ getD five 4 0 ∷ [] ≡ five
+five-whole five e = five-is five 0 (omega (arith, e)) ∙ ap (λ (k : ℕ). take k five) (sym e) ∙ take-length five
+
+-- a list of ballots and one more
+pub one-more-ballot : (five l : List ℕ) (at : ℕ) → length five ≡ 5 → at + 5 ≤ length l → take (at + 5) (sets l at five) ≡ take at l ++ five
+one-more-ballot five l at many h =
     take-add at 5 (sets l at five) ∙ ap₂ (λ (a b : List ℕ). a ++ b) (sets-before five l at 0 at (omega arith)) (ap (λ (k : ℕ). take k (drop at (sets l at five))) (sym many) ∙ sets-at five l at (omega (arith, many)))

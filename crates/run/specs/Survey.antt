@@ -2,7 +2,7 @@
 -- with them.
 use Prim.Native.Nat.{ℕ, zero, suc, _+_, _*_}
 use mathlib.Core.List.{List, [], _++_}
-use mathlib.Core.Bool.{Bool, cond}
+use mathlib.Core.Bool.{cond}
 use lib.ListN.{getD, set, replicate}
 use lib.Seq.{sets}
 use Rattle.rules.specs.declared.Head.{Head}
@@ -27,10 +27,6 @@ noted before i h =
 unfoldable pub surveyOf : ℕ → List Head → Survey
 surveyOf zero table = noSurvey
 surveyOf (suc k) table = noted (surveyOf k table) k (headOf table k)
-
--- how many bytes of a list a ballot takes: none where it is lost
-abbrev pub keptBytes : Bool → ℕ
-keptBytes lost = cond lost 0 ballotBytes
 
 -- those of the first k ballots that are not lost, in sender order
 unfoldable pub receivedFrom : List ℕ → ℕ → ℕ → List ℕ

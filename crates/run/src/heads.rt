@@ -1,11 +1,14 @@
 // One head of the table at a time, by value: its start, what it shows, its tick in a round.
 ghost use mathlib.Core.Path.{_≡_};
+ghost use mathlib.Core.Bool.{true, _&&_, not};
 ghost use Prim.Native.Nat.{_+_, _*_, _≤_, _<_};
 ghost use lib.ListN.{length, take, drop};
 ghost use lib.Seq.{sets};
+ghost use lib.Dec.{eqb};
 ghost use Rattle.rules.specs.Sizes.{headsMost, ballotBytes};
+ghost use Rattle.rules.specs.Heard.{member as memberOf, setOf};
 ghost use Rattle.file.specs.Table.{startIn};
-ghost use Rattle.run.specs.Survey.{noSurvey, noted, keptBytes, receivedFrom, tickedBy};
+ghost use Rattle.run.specs.Survey.{noSurvey, noted, receivedFrom, tickedBy};
 use crate::places::byte_at;
 use crate::places::part;
 use crate::sections::COUNT_BYTES;
@@ -14,7 +17,7 @@ use codes::BALLOT_BYTES;
 use codes::HEADS_MOST;
 use codes::SET_BYTES;
 use codes::ballot_bytes;
-use codes::member;
+use codes::lowest;
 use codes::status_code;
 use engine::own_ballot;
 use engine::start;
@@ -59,7 +62,7 @@ pub(crate) fn note(before: Survey, i: usize, head: Head) -> Survey
     let status = head.status;
     let five = ballot_bytes(own_ballot(head));
     let mut ballots = before.ballots;
-    copy_ballot(&mut ballots, i * BALLOT_BYTES, &five, 0);
+    write_ballot(&mut ballots, i * BALLOT_BYTES, &five);
     Survey {
         ballots: ballots,
         decided: before.decided + status_code(status) as usize,
@@ -80,51 +83,75 @@ pub(crate) fn ticked(
 {
     let coin = byte_at(coins, i);
     let mut list = before.ballots;
-    let length = received(&mut list, &before.ballots, row_at(rows, i * SET_BYTES), n);
+    let length = received(&mut list, row_at(rows, i * SET_BYTES), n);
     let answer = tick(head, &list[..length], coin as u32);
     answer.head
 }
 
-// The ballots that are not lost, in sender order. The list comes with all of them, and stays so where
-// none is lost; else each is written, and a lost one is written over.
-fn received(list: &mut [u8], ballots: &[u8], lost: u32, n: usize) -> usize
+// Brings the ballots that are not lost to the front of the list, in sender order, and gives how many
+// bytes they take. Each moves to a place that is not behind its own, so none is written over unread.
+fn received(list: &mut [u8], lost: u32, n: usize) -> usize
     requires { ⌜ n ≤ headsMost ⌝ }
-    requires { ⌜ length (now ballots) ≡ headsMost * ballotBytes ⌝ }
-    requires { ⌜ now list ≡ now ballots ⌝ }
+    requires { ⌜ length (now list) ≡ headsMost * ballotBytes ⌝ }
     ensures { λ r. ⌜ r ≤ n * ballotBytes ⌝ }
     ensures { λ _. ⌜ length (now (list .exit)) ≡ headsMost * ballotBytes ⌝ }
-    ensures { λ r. ⌜ take r (now (list .exit)) ≡ receivedFrom (now (ballots .entry)) lost n ⌝ }
+    ensures { λ r. ⌜ take r (now (list .exit)) ≡ receivedFrom (now (list .entry)) lost n ⌝ }
 {
     if lost == 0 {
         return n * BALLOT_BYTES;
     }
+    let mut left = others(lost);
+    let mut k = lowest(left) as usize;
     let mut at = 0;
-    let mut k = 0;
     while k < n {
-        copy_ballot(list, at, ballots, k * BALLOT_BYTES);
-        at = at + kept_bytes(member(lost, k as u8));
-        k = k + 1;
+        let five = ballot_from(list, k * BALLOT_BYTES);
+        write_ballot(list, at, &five);
+        at = at + BALLOT_BYTES;
+        left = without(left, k);
+        k = lowest(left) as usize;
     }
     at
 }
 
-// Five bytes, from one place to another.
-fn copy_ballot(list: &mut [u8], at: usize, ballots: &[u8], from: usize)
-    requires { ⌜ at + ballotBytes ≤ length (now list) ⌝ }
-    requires { ⌜ from + ballotBytes ≤ length (now ballots) ⌝ }
-    ensures { λ _.
-        ⌜ now (list .exit) ≡ sets (now (list .entry)) at (take ballotBytes (drop from (now (ballots .entry)))) ⌝ }
+// The heads that are not in the set.
+fn others(set: u32) -> u32
+    ensures { λ r. ⌜ r ≡ setOf headsMost (λ s. not (memberOf s set)) ⌝ }
 {
-    list[at] = ballots[from];
-    list[at + 1] = ballots[from + 1];
-    list[at + 2] = ballots[from + 2];
-    list[at + 3] = ballots[from + 3];
-    list[at + 4] = ballots[from + 4];
+    !set
 }
 
-// How many bytes of a list a ballot takes.
-fn kept_bytes(lost: bool) -> usize
-    ensures { λ r. ⌜ r ≡ keptBytes lost ⌝ }
+// The set without one of its heads.
+fn without(set: u32, s: usize) -> u32
+    requires { ⌜ s < headsMost ⌝ }
+    requires { ⌜ memberOf s set ≡ true ⌝ }
+    ensures { λ r. ⌜ r ≡ setOf headsMost (λ t. memberOf t set && not (eqb s t)) ⌝ }
 {
-    if lost { 0 } else { BALLOT_BYTES }
+    set - (1u32 << s)
+}
+
+// The five bytes from a place on.
+fn ballot_from(list: &[u8], from: usize) -> [u8; BALLOT_BYTES]
+    requires { ⌜ from + ballotBytes ≤ length (now list) ⌝ }
+    ensures { λ r. ⌜ r ≡ take ballotBytes (drop from (now (list .entry))) ⌝ }
+{
+    [
+        list[from],
+        list[from + 1],
+        list[from + 2],
+        list[from + 3],
+        list[from + 4],
+    ]
+}
+
+// A ballot's five bytes, written to a place of the list.
+fn write_ballot(list: &mut [u8], at: usize, five: &[u8])
+    requires { ⌜ at + ballotBytes ≤ length (now list) ⌝ }
+    requires { ⌜ length (now five) ≡ ballotBytes ⌝ }
+    ensures { λ _. ⌜ now (list .exit) ≡ sets (now (list .entry)) at (now (five .entry)) ⌝ }
+{
+    list[at] = five[0];
+    list[at + 1] = five[1];
+    list[at + 2] = five[2];
+    list[at + 3] = five[3];
+    list[at + 4] = five[4];
 }

@@ -1,10 +1,10 @@
 -- Laws of sets of head numbers: members, the set of a test, unions, sizes.
-use Prim.Native.Nat.{ℕ, zero, suc, _+_, _*_, _/_, _%_, _^_, _≤_, _<_, min, max}
+use Prim.Native.Nat.{ℕ, zero, suc, _+_, _-_, _*_, _/_, _%_, _^_, _≤_, _<_, min, max}
 use mathlib.Core.Path.{_≡_, refl, sym, ap, ap₂, _∙_}
 use mathlib.Core.Bool.{Bool, true, false, cond, _&&_, _||_, not}
 use native.Mathlib.Nat.{pow-suc, one-mul}
 use native.Mathlib.Numerals.{one-add}
-use native.Mathlib.Decide.{decLt}
+use native.Mathlib.Decide.{decLt, ℕ-discrete}
 use native.Mathlib.Omega.{arith}
 use lib.Dec.{eqb, lit<, eqb·zero-suc, eqb·suc-zero, eqb·suc-suc}
 use lib.Pow.{shl-exact, shl-shr, shr-shr, shr-le, shr-mono}
@@ -13,7 +13,7 @@ use lib.Count.{ones, onesIn, ones-step}
 use borrow.Author.Tests.{eq-eqb, ne-eqb, eqb-true, eqb-false, lt-ltb, ltb-true}
 use Rattle.rules.specs.Below.{some, count}
 use Rattle.rules.specs.Heard.{member, setOf, size, apart, within}
-use Rattle.rules.proofs.Counting.Truth.{Means, never, means-self, means-as, means-and, means-not}
+use Rattle.rules.proofs.Counting.Truth.{Means, never, and-always, means-self, means-as, means-and, means-not}
 use Rattle.rules.proofs.Counting.Below.{count-same, count-low, count-le, not-some, means-some}
 
 -- ---- members
@@ -122,6 +122,43 @@ member-one zero zero = refl
 member-one zero (suc s) = member-suc s 1 ∙ member-none s ∙ sym (eqb·zero-suc s)
 member-one (suc a) zero = let p = pow-suc 2 a in let e : 2 ^ suc a % 2 ≡ 0 = omega arith in member-low (2 ^ suc a) ∙ ap (λ (y : ℕ). eqb y 1) e ∙ sym (eqb·suc-zero a)
 member-one (suc a) (suc s) = let p = pow-suc 2 a in let e : 2 ^ suc a / 2 ≡ 2 ^ a = omega arith in member-suc s (2 ^ suc a) ∙ ap (member s) e ∙ member-one a s ∙ sym (eqb·suc-suc a s)
+
+-- who is not in a set, as the machine's `!` gives it: of k digits, those that are not set
+pub member-rest : (k s x : ℕ) → x < 2 ^ k → s < k → member s (2 ^ k - 1 - x) ≡ not (member s x)
+member-rest zero s x h l = absurd (omega arith)
+member-rest (suc k) zero x h l = member-low (2 ^ suc k - 1 - x) ∙ go (ℕ-discrete (x % 2) 1) ∙ ap not (sym (member-low x))
+  where
+    go : Dec (x % 2 ≡ 1) → eqb ((2 ^ suc k - 1 - x) % 2) 1 ≡ not (eqb (x % 2) 1)
+    go (yes o) = let p = pow-suc 2 k in let e : (2 ^ suc k - 1 - x) % 2 ≡ 0 = omega arith in rw (e, o) refl
+    go (no o) = let p = pow-suc 2 k in let z : x % 2 ≡ 0 = omega (arith, o) in let e : (2 ^ suc k - 1 - x) % 2 ≡ 1 = omega arith in rw (e, z) refl
+member-rest (suc k) (suc s) x h l =
+    let p = pow-suc 2 k in
+    let e : (2 ^ suc k - 1 - x) / 2 ≡ 2 ^ k - 1 - x / 2 = omega arith in
+    member-suc s (2 ^ suc k - 1 - x) ∙ ap (member s) e ∙ member-rest k s (x / 2) (half-lt k x h) (omega arith) ∙ ap not (sym (member-suc s x))
+
+-- a set is no less than the set of one of its members
+pub member-le : (s x : ℕ) → member s x ≡ true → 2 ^ s ≤ x
+member-le s x m = elim (decLt x (2 ^ s)) [ yes l ↦ never (sym (member-high s s x l (omega arith)) ∙ m) | no l ↦ omega (arith, l) ]
+
+-- a set without one of its members
+pub member-less : (a s x : ℕ) → member a x ≡ true → member s (x - 2 ^ a) ≡ member s x && not (eqb a s)
+member-less zero zero x m =
+    let o : x % 2 ≡ 1 = eqb-true (x % 2) 1 (sym (member-low x) ∙ m) in
+    let e : (x - 2 ^ 0) % 2 ≡ 0 = omega arith in
+    member-low (x - 2 ^ 0) ∙ rw (e, m) refl
+member-less zero (suc s) x m =
+    let o : x % 2 ≡ 1 = eqb-true (x % 2) 1 (sym (member-low x) ∙ m) in
+    let e : (x - 2 ^ 0) / 2 ≡ x / 2 = omega arith in
+    member-suc s (x - 2 ^ 0) ∙ ap (member s) e ∙ sym (member-suc s x) ∙ sym (rw (eqb·zero-suc s) (and-always (member (suc s) x)))
+member-less (suc a) zero x m =
+    let p = pow-suc 2 a in let q = member-le (suc a) x m in
+    let e : (x - 2 ^ suc a) % 2 ≡ x % 2 = omega arith in
+    member-low (x - 2 ^ suc a) ∙ ap (λ (y : ℕ). eqb y 1) e ∙ sym (member-low x) ∙ sym (rw (eqb·suc-zero a) (and-always (member 0 x)))
+member-less (suc a) (suc s) x m =
+    let p = pow-suc 2 a in let q = member-le (suc a) x m in
+    let e : (x - 2 ^ suc a) / 2 ≡ x / 2 - 2 ^ a = omega arith in
+    member-suc s (x - 2 ^ suc a) ∙ ap (member s) e ∙ member-less a s (x / 2) (sym (member-suc a x) ∙ m)
+    ∙ ap₂ (λ (t u : Bool). t && not u) (sym (member-suc s x)) (sym (eqb·suc-suc a s))
 
 -- what the shift 1 << s gives
 pub shifted : (w s : ℕ) → s < w → (1 * 2 ^ s) % 2 ^ w ≡ 2 ^ s

@@ -2,7 +2,7 @@ use Prim.Native.Nat.{ℕ, _+_, _*_}
 use mathlib.Core.Path.{_≡_, refl}
 use mathlib.Core.List.{List}
 use native.Mathlib.Omega.{arith}
-use lib.ListN.{length, take, drop}
+use lib.ListN.{length}
 use lib.Seq.{sets}
 use borrow.Author.Needs.{needs}
 use Rattle.rules.specs.declared.Ballot.{Ballot}
@@ -16,7 +16,7 @@ use Rattle.run.proofs.heads.note.Statement.{statement}
 use Rattle.run.proofs.heads.note.Tie as tie
 
 noted-is : (before : Survey) (i : ℕ) (h : Head) (b : Ballot) (five ballots : List ℕ) (more : ℕ) → b ≡ ballotOf h → five ≡ bytesOf b
-    → ballots ≡ sets (before .ballots) (i * ballotBytes) (take ballotBytes (drop 0 five)) → more ≡ statusCode (h .status)
+    → ballots ≡ sets (before .ballots) (i * ballotBytes) five → more ≡ statusCode (h .status)
     → _≡_ {A = Survey} (record { ballots = ballots; decided = before .decided + more }) (noted before i h)
 unfolding noted
 noted-is before i h b five ballots more own bytes stored m = rw (stored, bytes, own, m) refl
@@ -27,18 +27,18 @@ own-ballot-requires c κs = search needs
 ballot-bytes-requires : tie.Need-ballot-bytes-requires
 ballot-bytes-requires c κs = search needs
 
-slice-aggregate-copy-ballot : tie.Need-slice-aggregate-copy-ballot
-slice-aggregate-copy-ballot c = search needs
+slice-aggregate-write-ballot : tie.Need-slice-aggregate-write-ballot
+slice-aggregate-write-ballot c = search needs
 
-mul-copy-ballot : tie.Need-mul-copy-ballot
-mul-copy-ballot c = search needs
+mul-write-ballot : tie.Need-mul-write-ballot
+mul-write-ballot c = search needs
 
-slice-aggregate-copy-ballot-2 : tie.Need-slice-aggregate-copy-ballot-2
-slice-aggregate-copy-ballot-2 c = search needs
+slice-aggregate-write-ballot-2 : tie.Need-slice-aggregate-write-ballot-2
+slice-aggregate-write-ballot-2 c = search needs
 
-copy-ballot-requires : tie.Need-copy-ballot-requires
-copy-ballot-requires c κs = let long : 160 ≡ length (c .before .before .before .before .before .args .before .ballots) = slice-aggregate-copy-ballot (c .before) in
-    let five : 5 ≡ length (c .before .before .before .ballot-bytes .result) = slice-aggregate-copy-ballot-2 c in
+write-ballot-requires : tie.Need-write-ballot-requires
+write-ballot-requires c κs = let long : 160 ≡ length (c .before .before .before .before .before .args .before .ballots) = slice-aggregate-write-ballot (c .before) in
+    let five : 5 ≡ length (c .before .before .before .ballot-bytes .result) = slice-aggregate-write-ballot-2 c in
     (omega (arith, long, c .before .before .before .before .before .pre .0), omega (arith, five))
 
 status-code-requires : tie.Need-status-code-requires
@@ -51,7 +51,7 @@ add-t17 : tie.Need-add-t17
 add-t17 c = search needs
 
 returns : tie.Need-returns
-returns c = noted-is _ _ _ _ _ _ _ (c .before .before .before .before .before .before .before .before .own-ballot .ensures) (c .before .before .before .before .before .before .before .ballot-bytes .ensures) (c .before .before .before .copy-ballot .ensures) (c .before .status-code .ensures)
+returns c = noted-is _ _ _ _ _ _ _ (c .before .before .before .before .before .before .before .before .own-ballot .ensures) (c .before .before .before .before .before .before .before .ballot-bytes .ensures) (c .before .before .before .write-ballot .ensures) (c .before .status-code .ensures)
 
 pub note-spec : {M : Type 1} → statement M
 note-spec =
@@ -59,10 +59,10 @@ note-spec =
     (tie.spec
     own-ballot-requires
     ballot-bytes-requires
-    slice-aggregate-copy-ballot
-    mul-copy-ballot
-    slice-aggregate-copy-ballot-2
-    copy-ballot-requires
+    slice-aggregate-write-ballot
+    mul-write-ballot
+    slice-aggregate-write-ballot-2
+    write-ballot-requires
     status-code-requires
     cast-t12
     add-t17

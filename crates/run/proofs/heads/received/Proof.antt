@@ -1,89 +1,83 @@
-use Prim.Native.Nat.{ℕ, suc, _+_, _*_, _-_, _≤_}
-use mathlib.Core.Path.{_≡_, refl, sym, ap, ap₂, _∙_}
-use mathlib.Core.List.{List, [], _++_}
-use mathlib.Core.Bool.{Bool, true, false, cond}
+use Prim.Native.Nat.{ℕ, _+_, _-_, _*_, _≤_, _<_}
+use mathlib.Core.Path.{_≡_, sym, ap, _∙_}
 use native.Mathlib.Omega.{arith}
-use native.Mathlib.Nat.{le-antisymm}
-use lib.ListN.{length, take, drop, length-drop}
-use lib.Seq.{sets, length-sets, length-take-le}
+use lib.ListN.{length, take}
 use borrow.Author.Needs.{needs}
+use Rattle.rules.specs.Below.{first}
 use Rattle.rules.specs.Heard.{member}
-use Rattle.rules.specs.Ballot.{fiveAt}
-use Rattle.run.specs.Survey.{keptBytes, receivedFrom}
-use Rattle.run.proofs.Parts.{kept-or-lost}
+use Rattle.rules.proofs.Counting.Below.{first-le}
+use Rattle.run.specs.Survey.{receivedFrom}
 use Rattle.run.proofs.Surveyed.{all-received}
+use Rattle.run.proofs.Received.{Kept, none-kept, one-kept, all-kept, next-present, next-later}
 use Rattle.run.proofs.heads.received.Statement.{statement}
 use Rattle.run.proofs.heads.received.Tie as tie
 
-received-more : (ballots list after : List ℕ) (lost at k kept : ℕ) (test : Bool) → at + 5 ≤ length list → k * 5 + 5 ≤ length ballots
-    → take at list ≡ receivedFrom ballots lost k → after ≡ sets list at (fiveAt ballots k) → test ≡ member k lost → kept ≡ keptBytes test
-    → take (at + kept) after ≡ receivedFrom ballots lost (k + 1)
-unfolding receivedFrom
-received-more ballots list after lost at k kept test room inside so-far copied tested kept-is =
-    let e : k + 1 ≡ suc k = omega arith in
-    let five : length (fiveAt ballots k) ≡ 5 = length-take-le 5 (drop (k * 5) ballots) (omega (arith, length-drop (k * 5) ballots)) in
-    rw (copied, kept-is, e) (kept-or-lost (fiveAt ballots k) list at test five room ∙ ap₂ (λ (l : List ℕ) (t : Bool). l ++ cond t [] (fiveAt ballots k)) so-far tested)
-
-kept-small : (lost : Bool) → keptBytes lost ≤ 5
-kept-small true = omega arith
-kept-small false = omega arith
-
 abbrev Inv-loop : tie.InvT-loop
-Inv-loop list₀ ballots lost n at₀ k₀ list at k = (k ≤ n) × (at ≤ k * 5) × (length list ≡ 160) × (take at list ≡ receivedFrom ballots lost k)
+Inv-loop list₀ lost n left₀ k₀ at₀ list left k at = Kept list₀ lost n list left k at
 
 abbrev μ-loop : tie.MeasureT-loop
-μ-loop list₀ ballots lost n at₀ k₀ list at k = n - k
+μ-loop list₀ lost n left₀ k₀ at₀ list left k at = n - k
 
 mul-result : tie.Need-mul-result Inv-loop μ-loop
 mul-result c = search needs
 
 returns : tie.Need-returns Inv-loop μ-loop
-returns c = let pre = c .before .before .before .pre in
-    (omega arith, (ap length (pre .1 .1) ∙ pre .1 .0, ap (take (c .before .before .before .args .n * 5)) (pre .1 .1) ∙ sym (all-received (c .before .before .before .args .ballots .now) (c .before .before .before .args .n)) ∙ ap (λ (l : ℕ). receivedFrom (c .before .before .before .args .ballots .now) l (c .before .before .before .args .n)) (sym (c .if1 .taken))))
+returns c = let from = c .before .before in
+    let list = from .args .list .now in
+    (omega arith, (from .pre .1, sym (all-received list (from .args .n)) ∙ ap (λ (l : ℕ). receivedFrom list l (from .args .n)) (sym (c .if1 .taken))))
+
+others-requires : tie.Need-others-requires Inv-loop μ-loop
+others-requires c κs = search needs
+
+lowest-requires : tie.Need-lowest-requires Inv-loop μ-loop
+lowest-requires c κs = search needs
+
+cast-k : tie.Need-cast-k Inv-loop μ-loop
+cast-k c = search needs
 
 loop-holds : tie.Need-loop-holds Inv-loop μ-loop
-unfolding receivedFrom
-loop-holds c = let pre = c .before .before .before .pre in (omega arith, omega arith, ap length (pre .1 .1) ∙ pre .1 .0, refl)
+loop-holds c = let from = c .before .before .before .before in
+    none-kept _ _ _ _ _ (from .pre .0) (from .pre .1) (c .before .others .ensures) (c .lowest .ensures)
 
-mul-copy-ballot : tie.Need-mul-copy-ballot Inv-loop μ-loop
-mul-copy-ballot c = omega arith
+mul-ballot-from : tie.Need-mul-ballot-from Inv-loop μ-loop
+mul-ballot-from c = omega (arith, c .before .before .before .before .before .before .before .pre .0)
 
-copy-ballot-requires : tie.Need-copy-ballot-requires Inv-loop μ-loop
-copy-ballot-requires c κs = let e = c .before .before .loop .inv in (omega (arith, e .1, e .2, c .before .before .before .before .before .before .pre .0), omega (arith, c .before .before .before .before .before .before .pre .0, c .before .before .before .before .before .before .pre .1 .0))
+ballot-from-requires : tie.Need-ballot-from-requires Inv-loop μ-loop
+ballot-from-requires c κs = omega (arith, c .before .before .loop .inv .1, c .before .before .before .before .before .before .before .pre .0, c .before .loop-test .taken)
 
-cast-member : tie.Need-cast-member Inv-loop μ-loop
-cast-member c = record { fits = omega (arith, c .before .before .before .before .before .before .before .before .before .pre .0) }
+slice-aggregate-write-ballot : tie.Need-slice-aggregate-write-ballot Inv-loop μ-loop
+slice-aggregate-write-ballot c = search needs
 
-member-requires : tie.Need-member-requires Inv-loop μ-loop
-member-requires c κs = search needs
-
-kept-bytes-requires : tie.Need-kept-bytes-requires Inv-loop μ-loop
-kept-bytes-requires c κs = search needs
+write-ballot-requires : tie.Need-write-ballot-requires Inv-loop μ-loop
+write-ballot-requires c κs = let inv = c .before .before .before .before .before .loop .inv in
+    (omega (arith, inv .0, inv .1, c .before .before .before .before .before .before .before .before .before .before .pre .0, c .before .before .before .before .loop-test .taken), sym (slice-aggregate-write-ballot c))
 
 add-at : tie.Need-add-at Inv-loop μ-loop
-add-at c = record { fits = omega (arith, c .before .before .before .before .before .before .before .loop .inv .1, c .before .before .before .before .before .before .before .before .before .before .before .pre .0, c .kept-bytes .ensures, kept-small (c .before .member .result)) }
+add-at c = omega (arith, c .before .before .before .before .before .before .before .before .loop .inv .0, c .before .before .before .before .before .before .before .before .before .before .before .before .before .pre .0)
 
-add-k : tie.Need-add-k Inv-loop μ-loop
-add-k c = omega arith
+without-requires : tie.Need-without-requires Inv-loop μ-loop
+without-requires c κs = (omega (arith, c .before .before .before .before .before .before .before .before .before .before .before .before .before .pre .0, c .before .before .before .before .before .before .before .loop-test .taken), next-present _ _ _ _ _ _ _ (c .before .before .before .before .before .before .before .before .before .before .before .before .before .pre .0) (c .before .before .before .before .before .before .before .before .loop .inv) (c .before .before .before .before .before .before .before .loop-test .taken))
 
-loop-less : tie.Need-loop-less Inv-loop μ-loop
-loop-less c = omega arith
+lowest-requires-2 : tie.Need-lowest-requires-2 Inv-loop μ-loop
+lowest-requires-2 c κs = search needs
+
+cast-k-2 : tie.Need-cast-k-2 Inv-loop μ-loop
+cast-k-2 c = search needs
 
 loop-again : tie.Need-loop-again Inv-loop μ-loop
-loop-again c = let e = c .before .before .before .before .before .before .before .loop .inv in
-    let pre = c .before .before .before .before .before .before .before .before .before .before .before .pre in (
-      omega arith,
-      omega (arith, e .1, c .kept-bytes .ensures, kept-small (c .before .member .result)),
-      ap length (c .before .before .before .before .copy-ballot .ensures) ∙ length-sets (c .before .before .before .before .before .before .before .loop .list) (c .before .before .before .before .before .before .before .loop .at) (fiveAt (c .before .before .before .before .before .before .before .before .before .before .before .args .ballots .now) (c .before .before .before .before .before .before .before .loop .k)) ∙ e .2,
-      received-more _ _ _ _ _ _ _ _ (omega (arith, e .1, e .2, pre .0)) (omega (arith, pre .0, pre .1 .0)) (e .3) (c .before .before .before .before .copy-ballot .ensures) (c .before .member .ensures) (c .kept-bytes .ensures),
-    )
+loop-again c =
+    one-kept _ _ _ _ _ _ _ _ _ _ _ (c .before .before .before .before .before .before .before .before .before .before .before .before .before .before .before .pre .0) (c .before .before .before .before .before .before .before .before .before .before .loop .inv) (c .before .before .before .before .before .before .before .before .before .loop-test .taken) (c .before .before .before .before .before .before .before .ballot-from .ensures)
+    (c .before .before .before .before .write-ballot .ensures) (c .before .without .ensures) (c .lowest2 .ensures)
+
+loop-less : tie.Need-loop-less Inv-loop μ-loop
+loop-less c = let later = next-later _ _ _ _ (c .before .without .ensures) (c .lowest2 .ensures) (c .before .before .before .before .before .before .before .before .before .before .loop .inv .5) (c .before .before .before .before .before .before .before .before .before .loop-test .taken) (c .before .before .before .before .before .before .before .before .before .before .before .before .before .before .before .pre .0) in
+    omega (arith, later, c .before .before .before .before .before .before .before .before .before .loop-test .taken)
 
 same-length : tie.Need-same-length Inv-loop μ-loop
-same-length c = c .before .loop .inv .2 ∙ sym (ap length (c .before .before .before .before .before .pre .1 .1) ∙ c .before .before .before .before .before .pre .1 .0)
+same-length c = c .before .loop .inv .1 ∙ sym (c .before .before .before .before .before .before .pre .1)
 
 returns-2 : tie.Need-returns-2 Inv-loop μ-loop
-returns-2 c = let e = c .before .loop .inv in
-    (omega (arith, e .0, e .1), (e .2, e .3 ∙ ap (receivedFrom (c .before .before .before .before .before .args .ballots .now) (c .before .before .before .before .before .args .lost)) (le-antisymm (e .0) (c .loop-test .left))))
+returns-2 c = let e = all-kept _ _ _ _ _ _ _ (c .before .loop .inv) (c .loop-test .left) in (e .0, (e .1, e .2))
 
 pub received-spec : {M : Type 1} → statement M
 received-spec =
@@ -93,14 +87,18 @@ received-spec =
     μ-loop
     mul-result
     returns
+    others-requires
+    lowest-requires
+    cast-k
     loop-holds
-    mul-copy-ballot
-    copy-ballot-requires
-    cast-member
-    member-requires
-    kept-bytes-requires
+    mul-ballot-from
+    ballot-from-requires
+    slice-aggregate-write-ballot
+    write-ballot-requires
     add-at
-    add-k
+    without-requires
+    lowest-requires-2
+    cast-k-2
     loop-less
     loop-again
     same-length

@@ -39,7 +39,7 @@ array-share-prefix-list : tie.Need-array-share-prefix-list
 array-share-prefix-list c = search needs
 
 slice-aggregate-tick : tie.Need-slice-aggregate-tick
-slice-aggregate-tick c = let e = c .before .before .received .ensures in sym (length-take-le _ _ (omega (arith, e .0, e .1 .0, c .before .before .before .before .before .before .before .before .before .before .before .before .pre .0)))
+slice-aggregate-tick c = let e = c .before .before .received .ensures in sym (length-take-le _ _ (omega (arith, e .0, e .1 .0, c .before .before .before .before .before .before .before .before .before .pre .0)))
 
 cast-tick : tie.Need-cast-tick
 cast-tick c = search needs
@@ -49,7 +49,7 @@ tick-requires c κs = search needs
 
 returns : tie.Need-returns
 returns c = let e = c .before .before .before .before .received .ensures in
-    ticked-is _ _ _ _ _ _ _ _ _ _ (c .before .tick .ensures) (e .1 .1) (c .before .before .before .before .before .row-at .ensures) (c .before .before .before .before .before .before .before .before .before .before .before .byte-at .ensures)
+    ticked-is _ _ _ _ _ _ _ _ _ _ (c .before .tick .ensures) (e .1 .1) (c .before .before .before .before .before .row-at .ensures) (c .before .before .before .before .before .before .before .before .byte-at .ensures)
 
 pub ticked-spec : {M : Type 1} → statement M
 ticked-spec =
