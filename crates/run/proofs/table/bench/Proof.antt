@@ -57,7 +57,7 @@ use Rattle.file.proofs.Outcome.Laws as O′
 use Rattle.run.proofs.heads.Survey as U
 use Rattle.run.proofs.heads.Survey.Laws as U′
 use Rattle.run.proofs.Walking.{R, S, planRow, machP, machS, told, plan-lawful, survey-lawful, survey-tells, planTy, surveyTy, bytesTy, bytesVal, Bytes, Table, count-owned, plan-owned, survey-owned, bytes-copied, answered, table-lent, table-back}
-use Rattle.run.proofs.Calling.{table-left, of-first, Shown, table-shown, table-seen}
+use Rattle.run.proofs.Calling.{says-both, table-left, of-first, Shown, table-shown, table-seen}
 use Rattle.run.proofs.Planned.{planned-room, planned-small}
 use Rattle.run.proofs.Surveyed.{survey-counts}
 use Rattle.run.proofs.plans.plan_of as plan-of
@@ -158,7 +158,7 @@ module _ (counts : Counts) {M : Type 1} (𝓤 : URA M) (H : Heap 𝓤) (A : Atom
       → ent 𝓤 (⋆ 𝓤 H A (‵ (Table κ γ b o (length ys) zs) ∷ ‵ (flft κ q) ∷ ‵ (flft κ′ q′) ∷ ‵ (Bytes κ′ fx) ∷ [])) (Post w)
   exits r w zs is er ez len =
       qed W (‵ (Table κ γ b o (length ys) zs) ∷ ‵ (flft κ q) ∷ ‵ (flft κ′ q′) ∷ ‵ (Bytes κ′ fx) ∷ []) ∵
-      suffices ! _ (ends-at 𝓤 H A bench.ended stayed (bench.clauses 𝓤 H A mem run) W (((κ′, (κ, tt)), (q′, (q, tt)), tt, a, vals), tt) w r (tt, (zs, tt)) (tt, (len, tt))) $ says ! (er, ez) $
+      suffices ! _ (ends-at 𝓤 H A bench.ended stayed (bench.clauses 𝓤 H A mem run) W (((κ′, (κ, tt)), (q′, (q, tt)), tt, a, vals), tt) w r (tt, (zs, tt)) (tt, (len, tt))) $ says-both ! er ez $
       nothing ! $ move ! (2 ∷ 0 ∷ []) $ join ! $ move ! (2 ∷ 0 ∷ []) $ join ! $ frame ! $
       nothing ! $ move ! (1 ∷ 0 ∷ []) $ fjoin ! $ move ! (1 ∷ 0 ∷ []) $ fjoin ! $ owned ! O.the-row (Is O.the-row) (LL.makes O.the-type O′.the-plain 𝓤 H A) r _ is $ move ! (1 ∷ 0 ∷ []) $ done !
 

@@ -61,7 +61,7 @@ use Rattle.file.proofs.Outcome.Laws as O′
 use Rattle.file.proofs.Benched as B
 use Rattle.file.proofs.Benched.Laws as B′
 use Rattle.run.proofs.Walking.{R, mach, told, head-lawful, head-tells, head-copy, headTy, bytesVal, Bytes, Table, bytes-copied, answered}
-use Rattle.run.proofs.Calling.{table-left, of-first, of-others}
+use Rattle.run.proofs.Calling.{table-left-both, of-first, of-others}
 use Rattle.codes.proofs.zero_head as zero-head
 use Rattle.codes.proofs.zero_head.Symbol as zero-head-def
 use Rattle.codes.proofs.zero_head.Symbol.{name as #codes·zero-head}
@@ -204,7 +204,7 @@ module _ {M : Type 1} (𝓤 : URA M) (H : Heap 𝓤) (A : Atoms 𝓤) (W : Given
         move ! (22 ∷ []) $ split ! $ move ! (7 ∷ 1 ∷ []) $ join ! $ move ! (1 ∷ 0 ∷ 2 ∷ 5 ∷ []) $ join ! $
         use3 W (raw (Bench 𝓤 H A mem″ run .pre (to-bench l₃ ν γ))) (goes-bench l₃ ν γ) $
         calls-at ! fm (Bench 𝓤 H A mem″ run) known-bench (to-bench l₃ ν γ) (and-then ! (load ! (from ! (stop !)) (look ! 16 refl)) (and-then ! (load ! (from ! (stop !)) (look ! 7 refl)) (no-more !))) (λ u.
-        table-left ! tt bench.ended (κ, (ν ∷ [], tt)) (fx, (table l₃ γ, tt)) O.the-row (‵ (flft κ q) ⊛ ‵ (flft (ν ∷ []) fullShare) ⊛ ‵ ftrue) u γ emptyTable (λ ws. ws .1 .0) Said
+        table-left-both ! tt bench.ended (κ, (ν ∷ [], tt)) (fx, (table l₃ γ, tt)) O.the-row (‵ (flft κ q) ⊛ ‵ (flft (ν ∷ []) fullShare) ⊛ ‵ ftrue) u γ emptyTable (λ ws. ws .1 .0) (λ p hs. p ≡ outcomeOf (fx .now) emptyTable) (λ p hs. hs ≡ tableAfter (fx .now) emptyTable)
         (λ Γ′ ws. step (λ s. of-others ! $ of-first ! $ s)) (λ p zs said _ ip.
         -- [what the answer owns; the two tokens, and true; what says the last list; what the file owns; true; the lender's part; true; _7; …]
         land ! (from ! (stop !)) (init ! 13 refl (LL.lawful O.the-type O′.the-laws 𝓤 H A W .typed p _ ip .0)) $ rewrite ! 13 (λ (v : Val). ‵ (fat fullShare O′.mir l₄ 0 v)) (ap only (LL.tells O.the-type O′.the-laws p _ ip)) refl $
