@@ -1,5 +1,5 @@
 -- What a look tells at its end: the number that a list gives, and the head after steps 1 and 2.
-use Prim.Native.Nat.{ℕ, _^_, _+_, _*_, _≤_, _<_}
+use Prim.Native.Nat.{ℕ, _^_, _+_, _*_, _/_, _%_, _≤_, _<_}
 use mathlib.Core.Path.{_≡_, refl, sym, ap, ap₂, fun-ext, _∙_}
 use mathlib.Core.List.{List}
 use mathlib.Core.Bool.{Bool, true, false, cond, _&&_, _||_}
@@ -7,7 +7,7 @@ use mathlib.Core.Logic.{_⊎_, inl, inr}
 use native.Mathlib.Decide.{ℕ-discrete}
 use native.Mathlib.Omega.{arith}
 use lib.Dec.{ltb, eqb, lit<}
-use lib.ListN.{length}
+use lib.ListN.{length, getD}
 use borrow.Author.Tests.{ltb-true, lt-ltb, le-ltb, ne-eqb}
 use Rattle.rules.specs.declared.Value.{Value}
 use Rattle.rules.specs.declared.Value.the-variants.{Zero, One, Blank}
@@ -20,19 +20,19 @@ use Rattle.rules.specs.Ballot.{valueCode, statusCode, sameValue, ballotAt, brea
 use Rattle.rules.specs.Heard.{member, setOf, heard, says}
 use Rattle.rules.specs.Head.{sound}
 use Rattle.rules.specs.Tick.{ballots, leader, copying, moved, heardWith, added, gathered, ownOtherwise, contradicts}
-use Rattle.rules.proofs.Counting.Truth.{means-same, means-as, means-self, means-or, means-eq, and-never, or-left-false, or-right-false}
-use Rattle.rules.proofs.Counting.Below.{NoneBefore, first-le, first-before, first-holds, some-here, some-not, not-some, means-some}
-use Rattle.rules.proofs.Counting.Sets.{member-none, member-setOf, setOf-lt, setOf-is, means-within}
+use Rattle.rules.proofs.Counting.Truth.{Means, false-not, not-false, means-same, means-as, means-self, means-and, means-or, means-eq, and-never, or-left-false, or-right-false}
+use Rattle.rules.proofs.Counting.Below.{NoneBefore, first-le, first-before, first-holds, first-at, some-here, some-not, not-some, means-some}
+use Rattle.rules.proofs.Counting.Sets.{member-none, member-setOf, means-member, setOf-lt, setOf-is, digit, means-within}
 use Rattle.rules.specs.Given.{Sound}
 use Rattle.rules.proofs.OneTick.Hearing.{none-heard}
 use Rattle.rules.proofs.Meaning.Meanings.{means-sound}
-use Rattle.rules.proofs.OneTick.Leader.{leader-leads}
+use Rattle.rules.proofs.OneTick.Leader.{means-ahead, Leads, leader-leads, leader-highest}
 use Rattle.rules.proofs.OneTick.Senders.{Moves, stays, copies, moves}
 use Rattle.engine.specs.declared.look.Look.{Look}
-use Rattle.engine.specs.Look.{refused, code, highest, isSaid, saidIn, lookAt, Looks, Fits, shown, listNumber, listened}
+use Rattle.engine.specs.Look.{refused, code, ballotBy, highest, isSaid, saidIn, lookAt, Looks, Fits, codeBy, foremost, shown, listNumber, listened}
 use Rattle.engine.proofs.Growing.{highest-most, highest-least, highest-within}
-use Rattle.engine.proofs.Refusing.{status-low, code-low, stands-clean}
-use Rattle.engine.proofs.Looking.{sees}
+use Rattle.engine.proofs.Refusing.{status-low, code-low, stands-clean, clean-low, ballot-by, one-code}
+use Rattle.engine.proofs.Looking.{five, saidOf, sees}
 
 -- ---- the first that is refused
 
@@ -112,51 +112,23 @@ module _ (h : Head) (l : List ℕ) where
       left : (x y z : Bool) → x ≡ false → y ≡ false → x || (y || z) ≡ true → z ≡ true
       left x y z p q r = sym (ap₂ (λ (s t : Bool). s || (t || z)) p q) ∙ r
 
--- ---- step 2
+-- ---- the phase after step 2
 
-module _ (h : Head) (l : List ℕ) where
-  abbrev above : ℕ → Bool
-  above i = ltb (h .phase) (ballotAt l i .phase)
+-- the ballot at index i is of a higher phase
+abbrev above : Head → List ℕ → ℕ → Bool
+above h l i = ltb (h .phase) (ballotAt l i .phase)
 
-  -- the highest phase is the one that step 2 leaves
-  pub highest-moved : highest h l (ballots l) ≡ moved h l .phase
-  highest-moved = go (moves h l)
-    where
-      go : Moves h l → highest h l (ballots l) ≡ moved h l .phase
-      go (stays q f) =
-          omega (arith, highest-least h l (ballots l), highest-within h l (ballots l) (h .phase) (omega arith) f, ap (λ (k : Head). k .phase) q)
-      go (copies i b q u f) =
-          omega (arith, highest-most h l (ballots l) i b, highest-within h l (ballots l) (ballotAt l i .phase) (omega arith) f, ap (λ (k : Head). k .phase) q)
+-- the highest phase is the one that step 2 leaves
+highest-moved : (h : Head) (l : List ℕ) → highest h l (ballots l) ≡ moved h l .phase
+highest-moved h l = go (moves h l)
+  where
+    go : Moves h l → highest h l (ballots l) ≡ moved h l .phase
+    go (stays q f) =
+        omega (arith, highest-least h l (ballots l), highest-within h l (ballots l) (h .phase) (omega arith) f, ap (λ (k : Head). k .phase) q)
+    go (copies i b q u f) =
+        omega (arith, highest-most h l (ballots l) i b, highest-within h l (ballots l) (ballotAt l i .phase) (omega arith) f, ap (λ (k : Head). k .phase) q)
 
-  highest-above : ltb (h .phase) (highest h l (ballots l)) ≡ some (ballots l) above
-  highest-above = go (moves h l)
-    where
-      go : Moves h l → ltb (h .phase) (highest h l (ballots l)) ≡ some (ballots l) above
-      go (stays q f) =
-          le-ltb (h .phase) (highest h l (ballots l)) (highest-within h l (ballots l) (h .phase) (omega arith) f)
-          ∙ sym (some-not (ballots l) above (λ j b. le-ltb (h .phase) (ballotAt l j .phase) (f j b)))
-      go (copies i b q u f) =
-          lt-ltb (h .phase) (highest h l (ballots l)) (omega (arith, highest-most h l (ballots l) i b))
-          ∙ sym (some-here (ballots l) above i b (lt-ltb (h .phase) (ballotAt l i .phase) u))
-
-  pub moved-ahead : h .phase < highest h l (ballots l) → copying h (ballotAt l (leader l)) ≡ moved h l
-  unfolding moved
-  moved-ahead b =
-      sym (ap (λ (t : Bool). cond t (copying h (ballotAt l (leader l))) h) (sym highest-above ∙ lt-ltb (h .phase) (highest h l (ballots l)) b))
-
-  pub moved-not : highest h l (ballots l) ≤ h .phase → h ≡ moved h l
-  unfolding moved
-  moved-not b =
-      sym (ap (λ (t : Bool). cond t (copying h (ballotAt l (leader l))) h) (sym highest-above ∙ le-ltb (h .phase) (highest h l (ballots l)) b))
-
-  pub leader-there : h .phase < highest h l (ballots l) → leader l < ballots l
-  leader-there b = go (moves h l)
-    where
-      go : Moves h l → leader l < ballots l
-      go (stays q f) = absurd (omega (arith, highest-within h l (ballots l) (h .phase) (omega arith) f))
-      go (copies i m q u f) = leader-leads l (omega arith) .within
-
--- ---- step 1
+-- ---- steps 1 and 2, by the look
 
 some-or : (k : ℕ) (a b : ℕ → Bool) → some k a || some k b ≡ some k (λ j. a j || b j)
 some-or k a b =
@@ -191,6 +163,11 @@ two-codes v b =
         go : Dec (statusCode (b .status) ≡ 0) → (code b ≡ valueCode v * 2) ⊎ (code b ≡ valueCode v * 2 + 1)
         go (yes z) = inl (omega arith)
         go (no n) = inr (omega (arith, n, status-low (b .status)))
+
+-- a code, by whether it is 1, 2, 3 or 4
+digits : (c : ℕ) → c < 5
+    → cond (eqb c 1) 1 0 + cond (eqb c 2) 1 0 * 2 + cond (eqb c 3) 1 0 * 3 + cond (eqb c 4) 1 0 * 4 ≡ c
+digits = five _ refl refl refl refl refl
 
 -- who said a value, decided or not
 said-value : (l : List ℕ) (k p : ℕ) (v : Value) (s : ℕ)
@@ -237,14 +214,87 @@ module _ (h : Head) (l : List ℕ) (look : Look) (is : Looks h l look) (end : lo
       let k = heard-with Blank (g .blanks) (look .blanks) 0 (s .3 4 (lit< tt)) (λ t m. member-none t ∙ sym (no-blank-decided t)) in
       simp (z, o, k, e)
 
+  abbrev best : Ballot
+  best = ballotAt l (leader l)
+
+  -- where the leader is of the look's phase, no lower sender is listed there, and it says one thing
+  module _ (fits : Fits h) (leads : Leads l (ballots l) (leader l)) (phase : best .phase ≡ look .phase) where
+    low : best .sender < 32
+    low = clean-low h l (leader l) fits (none (leader l) (leads .within))
+
+    abbrev Listed : ℕ → Type 0
+    Listed s = (j : ℕ) × (j < ballots l) × ((ballotAt l j .phase ≡ look .phase) × (ballotAt l j .sender ≡ s))
+
+    listed : (s : ℕ) → s < 32 → Means (member s (look .listed)) (Listed s)
+    listed s b =
+        means-member 32 (look .listed) s _ (sees h l (ballots l) look at-end .1) b
+        (means-some (λ j. means-and (means-eq _ _) (means-eq _ _)))
+
+    lower : (s : ℕ) → s < best .sender → member s (look .listed) ≡ false
+    lower s b = not-false (listed s (omega (arith, low))) behind
+      where
+        behind : Listed s → ⊥
+        behind (j, m, e) =
+            false-not (means-ahead (ballotAt l j) best) (leads .behind j m) (inr (e .0 ∙ sym phase, omega (arith, e .1)))
+
+    lowest : first 32 (λ s. member s (look .listed)) % 32 ≡ best .sender
+    lowest =
+        let here = listed (best .sender) low .1 (leader l, leads .within, (phase, refl)) in
+        omega (arith, low, first-at 32 (λ s. member s (look .listed)) (best .sender) lower here low)
+
+    abbrev Said : ℕ → ℕ → Type 0
+    Said c j = (ballotAt l j .phase ≡ look .phase) × ((ballotAt l j .sender ≡ best .sender) × (code (ballotAt l j) ≡ c))
+
+    told : (c : ℕ) → (j : ℕ) × (j < ballots l) × Said c j → code best ≡ c
+    told c (j, m, e) =
+        one-code h l (ballots l) none (leader l) j (leads .within) m (phase ∙ sym (e .0), sym (e .1 .0)) ∙ e .1 .1
+
+    said : (c : ℕ) → c < 5 → getD (saidOf look) c 0 / 2 ^ best .sender % 2 ≡ cond (eqb (code best) c) 1 0
+    said c b =
+        sym (digit _ (omega arith)) ∙ ap (λ (t : Bool). cond t 1 0) (means-same by (means-eq (code best) c))
+      where
+        by : Means (member (best .sender) (getD (saidOf look) c 0)) (code best ≡ c)
+        by =
+            means-as (told c) (λ e. (leader l, leads .within, (phase, (refl, e))))
+            (means-member 32 _ (best .sender) _ (sees h l (ballots l) look at-end .3 c b) low
+            (means-some (λ j. means-and (means-eq _ _) (means-and (means-eq _ _) (means-eq _ _)))))
+
+    code-said : codeBy look (best .sender) ≡ code best
+    code-said =
+        let few = code-low (h .n) l (leader l) (stands-clean h l (leader l) (none (leader l) (leads .within))) in
+        rw (said 1 (lit< tt), said 2 (lit< tt), said 3 (lit< tt), said 4 (lit< tt)) (digits (code best) few)
+
+    foremost-leads : foremost look ≡ best
+    foremost-leads =
+        ap (λ (s : ℕ). ballotBy s (codeBy look s) (look .phase)) lowest
+        ∙ ap₂ (ballotBy (best .sender)) code-said (sym phase)
+        ∙ ballot-by best
+
+  moved-phase : moved h l .phase ≡ look .phase
+  moved-phase = sym (highest-moved h l) ∙ sees h l (ballots l) look at-end .0
+
+  pub moved-by : Fits h → cond (ltb (h .phase) (look .phase)) (copying h (foremost look)) h ≡ moved h l
+  unfolding moved
+  moved-by fits = go (moves h l)
+    where
+      go : Moves h l → cond (ltb (h .phase) (look .phase)) (copying h (foremost look)) h ≡ moved h l
+      go (stays q f) =
+          let e : h .phase ≡ look .phase = sym (ap (λ (k : Head). k .phase) q) ∙ moved-phase in
+          ap (λ (t : Bool). cond t (copying h (foremost look)) h) (le-ltb (h .phase) (look .phase) (omega arith))
+          ∙ sym q
+      go (copies i b q u f) =
+          let e : ballotAt l i .phase ≡ look .phase = sym (ap (λ (k : Head). k .phase) q) ∙ moved-phase in
+          let p = leader-leads l (omega arith) in
+          let most = f (leader l) (p .within) in
+          let some-above = some-here (ballots l) (above h l) i b (lt-ltb (h .phase) (ballotAt l i .phase) u) in
+          ap₂ (λ (t : Bool) (b : Ballot). cond t (copying h b) h)
+          (lt-ltb (h .phase) (look .phase) (omega arith) ∙ sym some-above)
+          (foremost-leads fits p (omega (arith, most, leader-highest l i b)))
+
   pub shown-gathered : (g : Head) → g ≡ moved h l → shown g look ≡ gathered h l
   unfolding gathered
   shown-gathered g e =
-      shown-added g (sym (sees h l (ballots l) look at-end .0) ∙ highest-moved h l ∙ sym (ap (λ (k : Head). k .phase) e))
-      ∙ ap (λ (k : Head). added k l) e
-
-  pub look-phase : highest h l (ballots l) ≡ look .phase
-  look-phase = sees h l (ballots l) look at-end .0
+      shown-added g (sym moved-phase ∙ sym (ap (λ (k : Head). k .phase) e)) ∙ ap (λ (k : Head). added k l) e
 
 -- ---- no ballots
 
@@ -253,9 +303,9 @@ small h a v =
     ltb-true (heard h v) (2 ^ 32) (means-within 32 (heard h v) .1 (λ s m. omega (arith, a .members v s m, a .heads .1)))
 
 pub empty-heard : (h : Head) (l : List ℕ) → Sound h → length l ≡ 0 → h ≡ gathered h l
-unfolding gathered added heardWith
+unfolding gathered moved added heardWith
 empty-heard h l a e =
-    simp (← moved-not h l (highest-within h l (ballots l) (h .phase) (omega arith) (λ j b. absurd (omega arith))), ← same Zero, ← same One, ← same Blank)
+    simp (some-not (ballots l) (above h l) (λ j b. absurd (omega arith)), ← same Zero, ← same One, ← same Blank)
   where
     same : (v : Value)
         → heard h v ≡ setOf 32 (λ s. member s (heard h v) || some (ballots l) (λ i. says (h .phase) v s (ballotAt l i)))

@@ -20,7 +20,7 @@ use Rattle.rules.specs.Below.{some}
 use Rattle.rules.specs.Ballot.{valueCode, valueOf, statusCode, statusOf, ballotAt, phaseAt, classOf, obeys, breaksRule}
 use Rattle.rules.specs.Heard.{member}
 use Rattle.rules.specs.Tick.{sameState, differ, ownOtherwise, heldOtherwise, contradicts}
-use Rattle.rules.proofs.Counting.Truth.{Means, never, not-false as means-false, means-same, means-as, means-and, means-not, means-eq, and-left, and-right, and-never, or-left-false, or-right-false, or-never}
+use Rattle.rules.proofs.Counting.Truth.{Means, never, false-not, not-false as means-false, not-not, means-same, means-as, means-and, means-not, means-eq, and-left, and-right, and-never, or-left-false, or-right-false, or-never}
 use Rattle.rules.proofs.Counting.Below.{NoneBefore, some-not, not-some, means-some}
 use Rattle.rules.proofs.Counting.Sets.{member-setOf}
 use Rattle.rules.proofs.Meaning.Meanings.{value-back, status-back}
@@ -102,7 +102,7 @@ means-state a b =
     (means-and (means-eq (valueCode (a .value)) (valueCode (b .value))) (means-eq (statusCode (a .status)) (statusCode (b .status))))
 
 -- of one sender and phase
-abbrev Same : Ballot → Ballot → Type 0
+abbrev pub Same : Ballot → Ballot → Type 0
 Same a b = (a .phase ≡ b .phase) × (a .sender ≡ b .sender)
 
 means-differ : (a b : Ballot) → Means (differ a b) (Same a b × (code a ≡ code b → ⊥))
@@ -220,12 +220,22 @@ module _ (h : Head) (l : List ℕ) (i : ℕ) (clean : NoneBefore i (refused h l)
   same = isSaid l (ballotAt l i .phase) (code (ballotAt l i)) (ballotAt l i .sender)
 
   -- among those before i, one sender says one thing at a phase
-  one-code : (j k : ℕ) → j < k → k < i → Same (ballotAt l j) (ballotAt l k)
-      → (code (ballotAt l j) ≡ code (ballotAt l k) → ⊥) → ⊥
+  later-code : (j k : ℕ) → j < k → k < i → Same (ballotAt l j) (ballotAt l k)
+      → code (ballotAt l j) ≡ code (ballotAt l k)
   unfolding refused contradicts
-  one-code j k a b s n =
+  later-code j k a b s =
       let quiet : some k (λ j. differ (ballotAt l j) (ballotAt l k)) ≡ false = or-left-false _ _ (or-right-false (ownOtherwise h (ballotAt l k)) _ (or-right-false (breaksRule (h .n) l k) _ (clean k b))) in
-      never (sym (not-some k (λ j. differ (ballotAt l j) (ballotAt l k)) quiet j a) ∙ means-differ (ballotAt l j) (ballotAt l k) .1 (s, n))
+      let apart = not-some k (λ j. differ (ballotAt l j) (ballotAt l k)) quiet j a in
+      not-not (means-eq _ _) (λ n. false-not (means-differ (ballotAt l j) (ballotAt l k)) apart (s, n))
+
+  pub one-code : (j k : ℕ) → j < i → k < i → Same (ballotAt l j) (ballotAt l k)
+      → code (ballotAt l j) ≡ code (ballotAt l k)
+  one-code j k a b s = go (decLt j k) (decLt k j)
+    where
+      go : Dec (j < k) → Dec (k < j) → code (ballotAt l j) ≡ code (ballotAt l k)
+      go (yes p) q = later-code j k p b s
+      go (no p) (yes q) = sym (later-code k j q a (sym (s .0), sym (s .1)))
+      go (no p) (no q) = ap (λ (m : ℕ). code (ballotAt l m)) (omega arith)
 
   means-here : (j : ℕ) → Means (here j) (Same (ballotAt l j) (ballotAt l i))
   means-here j =
@@ -252,16 +262,8 @@ module _ (h : Head) (l : List ℕ) (i : ℕ) (clean : NoneBefore i (refused h l)
       (means-and (means-some means-here) (means-not (means-some means-again)))
     where
       to : OneOf → Both
-      to (j, b, m) = ((j, b, m .0), λ r. clash j (r .0) b (r .1) (m .0) (r .2 .0) (m .1) (r .2 .1))
-        where
-          clash : (j k : ℕ) → j < i → k < i → Same (ballotAt l j) (ballotAt l i) → Same (ballotAt l k) (ballotAt l i)
-              → (code (ballotAt l j) ≡ code (ballotAt l i) → ⊥) → code (ballotAt l k) ≡ code (ballotAt l i) → ⊥
-          clash j k a b s t n e = go (decLt j k) (decLt k j)
-            where
-              go : Dec (j < k) → Dec (k < j) → ⊥
-              go (yes p) q = one-code j k p b (s .0 ∙ sym (t .0), s .1 ∙ sym (t .1)) (λ z. n (z ∙ e))
-              go (no p) (yes q) = one-code k j q a (t .0 ∙ sym (s .0), t .1 ∙ sym (s .1)) (λ z. n (sym z ∙ e))
-              go (no p) (no q) = n (ap (λ (m : ℕ). code (ballotAt l m)) (omega arith) ∙ e)
+      to (j, b, (s, n)) =
+          ((j, b, s), λ r. n (one-code j (r .0) b (r .1) (s .0 ∙ sym (r .2 .0 .0), s .1 ∙ sym (r .2 .0 .1)) ∙ r .2 .1))
 
       from : Both → OneOf
       from (r, none) = (r .0, r .1, (r .2, λ e. none (r .0, r .1, (r .2, e))))

@@ -1,6 +1,6 @@
 -- What the functions of `engine` hand to one another: a tick's answer in two parts, and what one look at a list of
 -- ballots shows.
-use Prim.Native.Nat.{ℕ, zero, suc, _+_, _*_, _/_, _%_, _≤_, _<_}
+use Prim.Native.Nat.{ℕ, zero, suc, _+_, _*_, _/_, _%_, _^_, _≤_, _<_}
 use mathlib.Core.Path.{_≡_}
 use mathlib.Core.List.{List, [], _∷_}
 use mathlib.Core.Bool.{Bool, true, false, cond, _&&_, _||_}
@@ -12,7 +12,8 @@ use Rattle.rules.specs.declared.Ticked.{Ticked}
 use Rattle.rules.specs.declared.Class.{Class}
 use Rattle.rules.specs.declared.Class.the-variants.{Never, First, Second, Odd, Even}
 use Rattle.rules.specs.Number.{_when_, firstThatApplies}
-use Rattle.rules.specs.Below.{some}
+use Rattle.rules.specs.Sizes.{headsMost}
+use Rattle.rules.specs.Below.{first, some}
 use Rattle.rules.specs.Ballot.{valueCode, valueOf, statusCode, statusOf, ballotAt, breaksRule}
 use Rattle.rules.specs.Heard.{member, setOf}
 use Rattle.rules.specs.Tick.{ballots, ownOtherwise, heldOtherwise, contradicts, gathered, bothHeard, phasesEnd, decidesOtherwise, stepped, settled}
@@ -194,6 +195,19 @@ GoesOn h l R from look =
 abbrev pub KnownIn : ℕ → List ℕ → ℕ → Type 0
 KnownIn set l i =
     (j : ℕ) → j < i → ballotAt l j .phase ≡ ballotAt l i .phase → ballotAt l j .sender < 32 → member (ballotAt l j .sender) set ≡ true
+
+-- what head s says at the look's phase: it is in the set of that number only; and the ballot of the lowest sender there
+abbrev pub codeBy : Look → ℕ → ℕ
+codeBy look s =
+    look .«zeros_decided» / 2 ^ s % 2
+    + look .ones / 2 ^ s % 2 * 2
+    + look .«ones_decided» / 2 ^ s % 2 * 3
+    + look .blanks / 2 ^ s % 2 * 4
+
+abbrev pub foremost : Look → Ballot
+foremost look =
+    let s = first headsMost (λ s. member s (look .listed)) % 32 in
+    ballotBy s (codeBy look s) (look .phase)
 
 -- the head with those that were seen at its phase; nobody is decided with a blank
 abbrev pub shown : Head → Look → Head

@@ -1,16 +1,13 @@
 // Looking at a list of ballots: each is read from its bytes when it is looked at.
 ghost use mathlib.Core.Path.{_≡_};
-ghost use mathlib.Core.Bool.{false, cond, _||_};
+ghost use mathlib.Core.Bool.{false, _||_};
 ghost use Prim.Native.Nat.{ℕ, _<_, _≤_};
 ghost use Rattle.rules.specs.Below.{first};
 ghost use Rattle.rules.specs.Ballot.{breaksRule, ballotAt};
-ghost use Rattle.rules.specs.Tick.{ballots as ballotsOf, leader as leaderOf, copying as copyingOf};
-ghost use Rattle.rules.specs.Tick.{sameState, ownOtherwise, differ as differOf, heldOtherwise};
-ghost use Rattle.rules.specs.Choice.{ahead as aheadOf};
+ghost use Rattle.rules.specs.Tick.{ballots as ballotsOf, sameState, ownOtherwise, differ as differOf, heldOtherwise};
 use crate::ballot::breaks_rule;
 use crate::head::own_ballot;
 use crate::head::stands_under;
-use crate::head::stated;
 use crate::said::phase_at;
 use crate::said::sender_at;
 use codes::BALLOT_BYTES;
@@ -54,52 +51,6 @@ pub(crate) fn first_own_otherwise(head: Head, ballots: &[u8], from: usize) -> us
         i += 1;
     }
     i
-}
-
-// The ballot of the highest phase and, among several senders, of the lowest; 0 where there is none.
-pub(crate) fn leader(ballots: &[u8]) -> usize
-    ensures { λ r. ⌜ r ≡ leaderOf (now (ballots .entry)) ⌝ }
-{
-    let count = ballots.len() / BALLOT_BYTES;
-    let mut best: usize = 0;
-    let mut i: usize = 1;
-    while i < count {
-        best = leading(ballots, i, best);
-        i += 1;
-    }
-    best
-}
-
-// The index i where its ballot is ahead of the one at best, else best.
-fn leading(ballots: &[u8], i: usize, best: usize) -> usize
-    requires { ⌜ (i < ballotsOf (now ballots)) × (best < ballotsOf (now ballots)) ⌝ }
-    ensures { λ r.
-        ⌜ r ≡ cond (aheadOf (ballotAt (now (ballots .entry)) i) (ballotAt (now (ballots .entry)) best)) i best ⌝ }
-{
-    if ahead(ballots, i, best) { i } else { best }
-}
-
-fn ahead(ballots: &[u8], i: usize, best: usize) -> bool
-    requires { ⌜ (i < ballotsOf (now ballots)) × (best < ballotsOf (now ballots)) ⌝ }
-    ensures { λ r. ⌜ r ≡ aheadOf (ballotAt (now (ballots .entry)) i) (ballotAt (now (ballots .entry)) best) ⌝ }
-{
-    let phase = phase_at(ballots, i);
-    let highest = phase_at(ballots, best);
-    (highest < phase) | ((phase == highest) & (sender_at(ballots, i) < sender_at(ballots, best)))
-}
-
-pub(crate) fn copying(head: Head, ballot: Ballot) -> Head
-    ensures { λ r. ⌜ r ≡ copyingOf head ballot ⌝ }
-{
-    let value = ballot.value;
-    let status = ballot.status;
-    let decision = head.decision;
-    let mut copy = stated(head, value, status, decision);
-    copy.phase = ballot.phase;
-    copy.zeros = 0;
-    copy.ones = 0;
-    copy.blanks = 0;
-    copy
 }
 
 fn own_otherwise(head: Head, ballot: Ballot) -> bool

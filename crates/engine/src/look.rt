@@ -9,7 +9,7 @@ ghost use Rattle.rules.specs.Ballot.{ballotAt, breaksRule};
 ghost use Rattle.rules.specs.Heard.{member as memberOf};
 ghost use Rattle.rules.specs.Tick.{ballots as ballotsOf};
 ghost use Rattle.engine.specs.Look.{refused, lookAt, unlooked as unlookedOf, withSaid, withElsewhere};
-ghost use Rattle.engine.specs.Look.{Fits, Looks, GoesOn, KnownIn};
+ghost use Rattle.engine.specs.Look.{Fits, Looks, GoesOn, KnownIn, codeBy, foremost as foremostOf};
 use crate::ballot::breaks_rule;
 use crate::ballot::class;
 use crate::list::first_differing;
@@ -24,6 +24,10 @@ use crate::said::sender_at;
 use crate::said::stands;
 use crate::said::statuses_of;
 use codes::BALLOT_BYTES;
+use codes::lowest;
+use codes::status_of;
+use codes::value_of;
+use rules::Ballot;
 use rules::Head;
 
 // What the first `next` ballots say, none of them refused. `phase`: the highest, the head's own
@@ -244,4 +248,31 @@ fn kept(yes: bool, set: u32) -> u32
     ensures { λ r. ⌜ r ≡ cond yes set 0 ⌝ }
 {
     if yes { set } else { 0 }
+}
+
+// "a ballot of the highest phase; among several senders the lowest number gives it". Where nobody is
+// listed, and so none is from ahead, it is one of head 0.
+pub(crate) fn foremost(look: Look) -> Ballot
+    ensures { λ r. ⌜ r ≡ foremostOf look ⌝ }
+{
+    let sender = (lowest(look.listed) % 32) as u8;
+    let code = code_by(look, sender);
+    Ballot {
+        sender: sender,
+        value: value_of(code / 2),
+        status: status_of(code % 2),
+        phase: look.phase,
+    }
+}
+
+// What head s says at the look's phase, its value and status in one number: it is in that set only.
+fn code_by(look: Look, s: u8) -> u8
+    requires { ⌜ s < 32 ⌝ }
+    ensures { λ r. ⌜ r ≡ codeBy look s ⌝ }
+{
+    let code = (look.zeros_decided >> s) % 2
+        + (look.ones >> s) % 2 * 2
+        + (look.ones_decided >> s) % 2 * 3
+        + (look.blanks >> s) % 2 * 4;
+    code as u8
 }

@@ -1,21 +1,61 @@
-// Steps 3 and 4.
+// The four steps of a tick, where nothing is refused.
 ghost use mathlib.Core.Path.{_≡_};
 ghost use mathlib.Core.Bool.{cond};
 ghost use Prim.Native.Nat.{_<_};
-ghost use lib.Dec.{eqb};
+ghost use lib.Dec.{ltb, eqb};
 ghost use Rattle.rules.specs.Ballot.{statusCode};
 ghost use Rattle.rules.specs.Head.{decisionFor as decisionForOf};
 ghost use Rattle.rules.specs.Tick.{quorum as quorumOf, majority as majorityOf, stepValue, stepStatus};
-ghost use Rattle.rules.specs.Tick.{risen as risenOf, settled as settledOf};
+ghost use Rattle.rules.specs.Tick.{copying as copyingOf, risen as risenOf, settled as settledOf};
+ghost use Rattle.engine.specs.Look.{foremost as foremostOf, shown as shownOf};
 use crate::head::stated;
 use crate::heard::heard;
+use crate::look::Look;
+use crate::look::foremost;
+use crate::said::either;
 use codes::size;
 use codes::status_code;
 use codes::value_of;
+use rules::Ballot;
 use rules::Decision;
 use rules::Head;
 use rules::Status;
 use rules::Value;
+
+// Step 1, of a head that step 2 has moved: those that were seen at its phase are added.
+pub(crate) fn shown(head: Head, look: Look) -> Head
+    ensures { λ r. ⌜ r ≡ shownOf head look ⌝ }
+{
+    let mut shown = head;
+    shown.zeros = either(head.zeros, look.zeros, look.zeros_decided);
+    shown.ones = either(head.ones, look.ones, look.ones_decided);
+    shown.blanks = either(head.blanks, look.blanks, 0);
+    shown
+}
+
+// Step 2, by the look at a whole list.
+pub(crate) fn moved(head: Head, look: Look) -> Head
+    ensures { λ r. ⌜ r ≡ cond (ltb (head .phase) (look .phase)) (copyingOf head (foremostOf look)) head ⌝ }
+{
+    if head.phase < look.phase {
+        return copying(head, foremost(look));
+    }
+    head
+}
+
+fn copying(head: Head, ballot: Ballot) -> Head
+    ensures { λ r. ⌜ r ≡ copyingOf head ballot ⌝ }
+{
+    let value = ballot.value;
+    let status = ballot.status;
+    let decision = head.decision;
+    let mut copy = stated(head, value, status, decision);
+    copy.phase = ballot.phase;
+    copy.zeros = 0;
+    copy.ones = 0;
+    copy.blanks = 0;
+    copy
+}
 
 // Step 3, of a head that has heard enough.
 pub(crate) fn risen(head: Head, coin: u8) -> Head

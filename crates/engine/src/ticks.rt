@@ -5,26 +5,22 @@ ghost use Prim.Native.Nat.{_<_};
 ghost use Rattle.rules.specs.Below.{first};
 ghost use Rattle.rules.specs.Head.{sound as soundOf};
 ghost use Rattle.rules.specs.Tick.{tickOf, notList, bothHeard, decidesOtherwise, settled as settledOf};
-ghost use Rattle.rules.specs.Tick.{ballots as ballotsOf, gathered as gatheredOf};
+ghost use Rattle.rules.specs.Tick.{ballots as ballotsOf};
 ghost use Rattle.engine.specs.Look.{listened as listenedOf, ended as endedOf, refused as refusedOf};
-ghost use Rattle.engine.specs.Look.{shown as shownOf, Looks};
 use crate::head::decision_is_value;
 use crate::head::is_decided;
 use crate::head::is_written;
 use crate::head::sound;
-use crate::list::copying;
 use crate::list::first_breaking;
 use crate::list::first_own_otherwise;
-use crate::list::leader;
-use crate::look::Look;
 use crate::look::looked;
-use crate::said::either;
+use crate::step::moved;
 use crate::step::quorum;
 use crate::step::risen;
 use crate::step::settled;
+use crate::step::shown;
 use codes::BALLOT_BYTES;
 use codes::LIST_BYTES_MOST;
-use codes::ballot_at;
 use codes::value_code;
 use rules::Head;
 use rules::Ticked;
@@ -93,7 +89,7 @@ fn listened(head: Head, ballots: &[u8]) -> Ticked
     if look.next < ballots.len() / BALLOT_BYTES {
         return refused(head, ballots, look.next);
     }
-    answer(0, gathered(head, look, ballots))
+    answer(0, shown(moved(head, look), look))
 }
 
 // Of a list whose first refused ballot is at that index: 6 or 7 where one there or later gives it, else 8.
@@ -110,28 +106,6 @@ fn refused(head: Head, ballots: &[u8], at: usize) -> Ticked
         return answer(7, head);
     }
     answer(8, head)
-}
-
-// Steps 1 and 2, where no ballot is refused, by the look at all of them.
-fn gathered(head: Head, look: Look, ballots: &[u8]) -> Head
-    requires { ⌜ Looks head (now ballots) look × (look .next ≡ ballotsOf (now ballots)) ⌝ }
-    ensures { λ r. ⌜ r ≡ gatheredOf head (now (ballots .entry)) ⌝ }
-{
-    if head.phase < look.phase {
-        return shown(copying(head, ballot_at(ballots, leader(ballots))), look);
-    }
-    shown(head, look)
-}
-
-// The head with those that were seen at its phase.
-fn shown(head: Head, look: Look) -> Head
-    ensures { λ r. ⌜ r ≡ shownOf head look ⌝ }
-{
-    let mut shown = head;
-    shown.zeros = either(head.zeros, look.zeros, look.zeros_decided);
-    shown.ones = either(head.ones, look.ones, look.ones_decided);
-    shown.blanks = either(head.blanks, look.blanks, 0);
-    shown
 }
 
 fn answer(number: u8, head: Head) -> Ticked

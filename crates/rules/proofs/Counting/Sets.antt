@@ -1,6 +1,6 @@
 -- Laws of sets of head numbers: members, the set of a test, unions, sizes.
 use Prim.Native.Nat.{ℕ, zero, suc, _+_, _-_, _*_, _/_, _%_, _^_, _≤_, _<_, min, max}
-use mathlib.Core.Path.{_≡_, refl, sym, ap, ap₂, _∙_}
+use mathlib.Core.Path.{_≡_, refl, sym, ap, ap₂, subst, _∙_}
 use mathlib.Core.Bool.{Bool, true, false, cond, _&&_, _||_, not}
 use native.Mathlib.Nat.{pow-suc, one-mul}
 use native.Mathlib.Numerals.{one-add}
@@ -91,6 +91,9 @@ member-setOf (suc k) p (suc s) h =
     let e : (cond (p 0) 1 0 + 2 * setOf k (λ s. p (suc s))) / 2 ≡ setOf k (λ s. p (suc s)) = omega arith in
     member-suc s (cond (p 0) 1 0 + 2 * setOf k (λ s. p (suc s))) ∙ ap (member s) e ∙ member-setOf k (λ s. p (suc s)) s (omega arith)
 
+pub means-member : {P : Type 0} (k x s : ℕ) (p : ℕ → Bool) → x ≡ setOf k p → s < k → Means (p s) P → Means (member s x) P
+means-member {P} k x s p e h m = subst (λ (t : Bool). Means t P) (sym (ap (member s) e ∙ member-setOf k p s h)) m
+
 -- a set is the set of what its members are
 pub setOf-is : (k x : ℕ) (p : ℕ → Bool) → x < 2 ^ k → ((s : ℕ) → s < k → member s x ≡ p s) → x ≡ setOf k p
 setOf-is k x p h e = set-same k x (setOf k p) h (setOf-lt k p) (λ s l. e s l ∙ sym (member-setOf k p s l))
@@ -166,7 +169,7 @@ shifted w s l = shl-exact 1 s w (lit< tt) (omega arith) ∙ one-mul (2 ^ s)
 
 -- ---- sizes and the tests of soundness
 
-digit : (d : ℕ) → d < 2 → cond (eqb d 1) 1 0 ≡ d
+pub digit : (d : ℕ) → d < 2 → cond (eqb d 1) 1 0 ≡ d
 digit zero h = refl
 digit (suc zero) h = refl
 digit (suc (suc d)) h = absurd (omega arith)

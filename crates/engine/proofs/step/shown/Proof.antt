@@ -1,6 +1,6 @@
 use borrow.Author.Needs.{needs}
-use Rattle.engine.proofs.ticks.shown.Statement.{statement}
-use Rattle.engine.proofs.ticks.shown.Tie as tie
+use Rattle.engine.proofs.step.shown.Statement.{statement}
+use Rattle.engine.proofs.step.shown.Tie as tie
 
 either-requires : tie.Need-either-requires
 either-requires c κs = search needs

@@ -1,6 +1,6 @@
 use borrow.Author.Needs.{needs}
-use Rattle.engine.proofs.list.copying.Statement.{statement}
-use Rattle.engine.proofs.list.copying.Tie as tie
+use Rattle.engine.proofs.step.copying.Statement.{statement}
+use Rattle.engine.proofs.step.copying.Tie as tie
 
 stated-requires : tie.Need-stated-requires
 stated-requires c κs = search needs
