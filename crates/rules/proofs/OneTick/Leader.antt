@@ -1,21 +1,18 @@
 -- The ballot that step 2 copies: going through the list finds it, and it is of the highest phase.
 use Prim.Native.Nat.{ℕ, zero, suc, _+_, _-_, _≤_, _<_}
-use mathlib.Core.Path.{_≡_, refl, sym, ap, subst, _∙_}
+use mathlib.Core.Path.{_≡_, refl, sym, ap, subst}
 use mathlib.Core.List.{List}
-use mathlib.Core.Bool.{Bool, true, false, cond, _&&_, not}
+use mathlib.Core.Bool.{Bool, true, false, cond, not}
 use mathlib.Core.Logic.{_⊎_, inl, inr}
 use native.Mathlib.Decide.{decLt}
 use native.Mathlib.Omega.{arith}
-use lib.Dec.{ltb}
-use borrow.Author.Tests.{lt-ltb, le-ltb, ltb-false}
 use Rattle.rules.specs.declared.Ballot.{Ballot}
-use Rattle.rules.specs.declared.Head.{Head}
-use Rattle.rules.specs.Below.{first, some}
+use Rattle.rules.specs.Below.{some}
 use Rattle.rules.specs.Ballot.{ballotAt}
-use Rattle.rules.specs.Tick.{ballots, leader, copying, moved}
+use Rattle.rules.specs.Tick.{ballots, leader}
 use Rattle.rules.specs.Choice.{ahead}
 use Rattle.rules.proofs.Counting.Truth.{Means, means-and, means-or, means-lt, means-eq, false-not, not-false}
-use Rattle.rules.proofs.Counting.Below.{first-le, first-at, some-here, some-not, none-more}
+use Rattle.rules.proofs.Counting.Below.{first-at, some-here, some-not, none-more}
 
 -- ---- the order of ballots
 
@@ -69,7 +66,7 @@ pub record Leads (l : List ℕ) (i best : ℕ) : Type 0 where
   pub behind : (j : ℕ) → j < i → ahead (ballotAt l j) (ballotAt l best) ≡ false
   pub first : (j : ℕ) → j < best → ahead (ballotAt l best) (ballotAt l j) ≡ true
 
-pub leads-start : (l : List ℕ) → Leads l 1 0
+leads-start : (l : List ℕ) → Leads l 1 0
 leads-start l = record { within = omega arith; behind = one; first = λ j h. absurd (omega arith) }
   where
     one : (j : ℕ) → j < 1 → ahead (ballotAt l j) (ballotAt l 0) ≡ false
@@ -90,29 +87,22 @@ leads-next {l} {i} {best} p e =
 leads-stay : {l : List ℕ} {i best : ℕ} → Leads l i best → ahead (ballotAt l i) (ballotAt l best) ≡ false → Leads l (i + 1) best
 leads-stay p e = record { within = omega (arith, p .within); behind = none-more (p .behind) e; first = p .first }
 
-pub leads-more : {l : List ℕ} {i best : ℕ} → Leads l i best → Leads l (i + 1) (cond (ahead (ballotAt l i) (ballotAt l best)) i best)
+leads-more : {l : List ℕ} {i best : ℕ} → Leads l i best → Leads l (i + 1) (cond (ahead (ballotAt l i) (ballotAt l best)) i best)
 leads-more {l} {i} {best} p = go (ahead (ballotAt l i) (ballotAt l best)) refl
   where
     go : (t : Bool) → ahead (ballotAt l i) (ballotAt l best) ≡ t → Leads l (i + 1) (cond t i best)
     go true e = leads-next p e
     go false e = leads-stay p e
 
--- the one that leads all ballots is the leader; 0 where there is none
-pub leads-all : (l : List ℕ) (i best : ℕ) → Leads l i best → ballots l ≤ i → best ≤ ballots l - 1 → best ≡ leader l
+-- the one that leads all ballots is the leader
+leads-all : (l : List ℕ) (best : ℕ) → Leads l (ballots l) best → best ≡ leader l
 unfolding leader
-leads-all l i best p h low = go (decLt 0 (ballots l))
-  where
-    test : ℕ → Bool
-    test i = not (some (ballots l) (λ j. ahead (ballotAt l j) (ballotAt l i)))
-
-    go : Dec (0 < ballots l) → best ≡ first (ballots l) test
-    go (no z) = omega (arith, first-le (ballots l) test)
-    go (yes z) =
-        sym
-        (first-at (ballots l) test best
-        (λ j b. ap not (some-here (ballots l) (λ k. ahead (ballotAt l k) (ballotAt l j)) best (omega arith) (p .first j b)))
-        (ap not (some-not (ballots l) (λ k. ahead (ballotAt l k) (ballotAt l best)) (λ j b. p .behind j (omega arith))))
-        (omega arith))
+leads-all l best p =
+    sym
+    (first-at (ballots l) (λ i. not (some (ballots l) (λ j. ahead (ballotAt l j) (ballotAt l i)))) best
+    (λ j b. ap not (some-here (ballots l) (λ k. ahead (ballotAt l k) (ballotAt l j)) best (p .within) (p .first j b)))
+    (ap not (some-not (ballots l) (λ k. ahead (ballotAt l k) (ballotAt l best)) (p .behind)))
+    (p .within))
 
 -- some ballot leads
 leading : (l : List ℕ) (k : ℕ) → (best : ℕ) × Leads l (k + 1) best
@@ -126,7 +116,7 @@ pub leader-leads : (l : List ℕ) → 0 < ballots l → Leads l (ballots l) (lea
 leader-leads l h =
     let r = leading l (ballots l - 1) in
     let p : Leads l (ballots l) (r .0) = subst (λ (m : ℕ). Leads l m (r .0)) (omega arith) (r .1) in
-    subst (λ (b : ℕ). Leads l (ballots l) b) (leads-all l (ballots l) (r .0) p (omega arith) (omega (arith, p .within))) p
+    subst (λ (b : ℕ). Leads l (ballots l) b) (leads-all l (r .0) p) p
 
 -- no ballot is of a higher phase than the leader
 pub leader-highest : (l : List ℕ) (i : ℕ) → i < ballots l → ballotAt l i .phase ≤ ballotAt l (leader l) .phase
@@ -138,34 +128,3 @@ leader-highest l i h = go (decLt (ballotAt l (leader l) .phase) (ballotAt l i .p
     go : Dec (ballotAt l (leader l) .phase < ballotAt l i .phase) → ballotAt l i .phase ≤ ballotAt l (leader l) .phase
     go (yes b) = absurd (false-not (means-ahead (ballotAt l i) (ballotAt l (leader l))) (p .behind i h) (inl b))
     go (no b) = omega arith
-
--- some ballot is of a phase above q exactly where the leader is
-pub leader-above : (l : List ℕ) (q : ℕ) → some (ballots l) (λ i. ltb q (ballotAt l i .phase)) ≡ ltb (leader l) (ballots l) && ltb q (ballotAt l (leader l) .phase)
-leader-above l q = go (decLt 0 (ballots l))
-  where
-    test : ℕ → Bool
-    test i = ltb q (ballotAt l i .phase)
-
-    go : Dec (0 < ballots l) → some (ballots l) test ≡ ltb (leader l) (ballots l) && ltb q (ballotAt l (leader l) .phase)
-    go (no z) =
-        some-not (ballots l) test (λ j b. absurd (omega arith))
-        ∙ sym (ap (λ (t : Bool). t && ltb q (ballotAt l (leader l) .phase)) (le-ltb (leader l) (ballots l) (omega arith)))
-    go (yes z) =
-        let p = leader-leads l z in
-        pick (p .within) (ltb q (ballotAt l (leader l) .phase)) refl
-        ∙ sym (ap (λ (t : Bool). t && ltb q (ballotAt l (leader l) .phase)) (lt-ltb (leader l) (ballots l) (p .within)))
-      where
-        pick : leader l < ballots l → (t : Bool) → ltb q (ballotAt l (leader l) .phase) ≡ t → some (ballots l) test ≡ ltb q (ballotAt l (leader l) .phase)
-        pick b true e = some-here (ballots l) test (leader l) b e ∙ sym e
-        pick b false e =
-            some-not (ballots l) test (λ j c. le-ltb q (ballotAt l j .phase) (omega (arith, leader-highest l j c, ltb-false q (ballotAt l (leader l) .phase) e)))
-            ∙ sym e
-
--- step 2, by the leader
-pub moved-copies : (h : Head) (l : List ℕ) → ltb (leader l) (ballots l) && ltb (h .phase) (ballotAt l (leader l) .phase) ≡ true → copying h (ballotAt l (leader l)) ≡ moved h l
-unfolding moved
-moved-copies h l e = sym (ap (λ (t : Bool). cond t (copying h (ballotAt l (leader l))) h) (leader-above l (h .phase) ∙ e))
-
-pub moved-stays : (h : Head) (l : List ℕ) → ltb (leader l) (ballots l) && ltb (h .phase) (ballotAt l (leader l) .phase) ≡ false → h ≡ moved h l
-unfolding moved
-moved-stays h l e = sym (ap (λ (t : Bool). cond t (copying h (ballotAt l (leader l))) h) (leader-above l (h .phase) ∙ e))
