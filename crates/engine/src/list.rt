@@ -20,7 +20,8 @@ use rules::Head;
 // The first ballot that breaks a ballot rule; where there is none, the number of ballots. So in
 // each search below.
 pub(crate) fn first_breaking(n: u8, ballots: &[u8], from: usize) -> usize
-    requires { ⌜ (from ≤ ballotsOf (now ballots)) × ((j : ℕ) → j < from → breaksRule n (now ballots) j ≡ false) ⌝ }
+    requires { ⌜ from ≤ ballotsOf (now ballots) ⌝ }
+    requires { ⌜ ((j : ℕ) → j < from → breaksRule n (now ballots) j ≡ false) ⌝ }
     ensures { λ r. ⌜ r ≡ first (ballotsOf (now (ballots .entry))) (breaksRule n (now (ballots .entry))) ⌝ }
 {
     let count = ballots.len() / BALLOT_BYTES;
@@ -36,8 +37,8 @@ pub(crate) fn first_breaking(n: u8, ballots: &[u8], from: usize) -> usize
 
 // The first ballot under the head's own number that is ahead of the head or unlike it.
 pub(crate) fn first_own_otherwise(head: Head, ballots: &[u8], from: usize) -> usize
-    requires { ⌜ (from ≤ ballotsOf (now ballots))
-        × ((j : ℕ) → j < from → ownOtherwise head (ballotAt (now ballots) j) ≡ false) ⌝ }
+    requires { ⌜ from ≤ ballotsOf (now ballots) ⌝ }
+    requires { ⌜ ((j : ℕ) → j < from → ownOtherwise head (ballotAt (now ballots) j) ≡ false) ⌝ }
     ensures { λ r.
         ⌜ r ≡ first (ballotsOf (now (ballots .entry)))
         (λ i. ownOtherwise head (ballotAt (now (ballots .entry)) i)) ⌝ }
@@ -79,7 +80,8 @@ pub(crate) fn first_differing(ballots: &[u8], i: usize) -> usize
 
 // Whether the ballots at two indexes differ. Most are of two senders or phases, and not read further.
 fn differ(ballots: &[u8], j: usize, i: usize) -> bool
-    requires { ⌜ (j < ballotsOf (now ballots)) × (i < ballotsOf (now ballots)) ⌝ }
+    requires { ⌜ j < ballotsOf (now ballots) ⌝ }
+    requires { ⌜ i < ballotsOf (now ballots) ⌝ }
     ensures { λ r. ⌜ r ≡ differOf (ballotAt (now (ballots .entry)) j) (ballotAt (now (ballots .entry)) i) ⌝ }
 {
     if sender_at(ballots, j) != sender_at(ballots, i) {

@@ -87,7 +87,8 @@ fn unlooked(head: Head) -> Look
 
 // With the ballots of the look's phase that come next, up to one of another phase or one refused.
 fn with_present(look: Look, head: Head, ballots: &[u8]) -> Look
-    requires { ⌜ Fits head × Looks head (now ballots) look ⌝ }
+    requires { ⌜ Fits head ⌝ }
+    requires { ⌜ Looks head (now ballots) look ⌝ }
     ensures { λ r. ⌜ GoesOn head (now (ballots .entry)) (λ p q. p ≡ q) look r ⌝ }
 {
     let count = ballots.len() / BALLOT_BYTES;
@@ -151,7 +152,8 @@ fn with_said(look: Look, next: usize, listed: u32, said: [u32; 5]) -> Look
 
 // With the ballots of lower phases that come next, up to one that is not or one refused.
 fn with_late(look: Look, head: Head, ballots: &[u8]) -> Look
-    requires { ⌜ Fits head × Looks head (now ballots) look ⌝ }
+    requires { ⌜ Fits head ⌝ }
+    requires { ⌜ Looks head (now ballots) look ⌝ }
     ensures { λ r. ⌜ GoesOn head (now (ballots .entry)) (λ p q. p < q) look r ⌝ }
 {
     let count = ballots.len() / BALLOT_BYTES;
@@ -174,7 +176,9 @@ fn with_late(look: Look, head: Head, ballots: &[u8]) -> Look
 // Whether a ballot of a lower phase than the look's is refused. Only where its sender has sent another
 // one of a lower phase are the earlier ballots searched.
 fn is_refused_late(elsewhere: u32, head: Head, ballots: &[u8], i: usize) -> bool
-    requires { ⌜ Fits head × (i < ballotsOf (now ballots)) × KnownIn elsewhere (now ballots) i ⌝ }
+    requires { ⌜ Fits head ⌝ }
+    requires { ⌜ i < ballotsOf (now ballots) ⌝ }
+    requires { ⌜ KnownIn elsewhere (now ballots) i ⌝ }
     ensures { λ r. ⌜ r ≡ refused head (now (ballots .entry)) i ⌝ }
 {
     if breaks_rule(head.n as u32, ballots, i) {
@@ -204,7 +208,8 @@ fn with_elsewhere(look: Look, next: usize, elsewhere: u32) -> Look
 
 // With the next ballot, if it is of a higher phase and not refused: what was listed is elsewhere.
 fn with_ahead(look: Look, head: Head, ballots: &[u8]) -> Look
-    requires { ⌜ Fits head × Looks head (now ballots) look ⌝ }
+    requires { ⌜ Fits head ⌝ }
+    requires { ⌜ Looks head (now ballots) look ⌝ }
     ensures { λ r. ⌜ GoesOn head (now (ballots .entry)) (λ p q. (r .next ≡ look .next) × (q < p)) look r ⌝ }
 {
     let i = look.next;

@@ -86,7 +86,8 @@ pub(crate) fn statuses_of(class: Class) -> u8
 
 // Who may not say what at the phase, the head's or a higher one.
 pub(crate) fn barred_from(head: Head, phase: u16) -> [u32; 5]
-    requires { ⌜ (head .own < 32) × (head .phase ≤ phase) ⌝ }
+    requires { ⌜ head .own < 32 ⌝ }
+    requires { ⌜ head .phase ≤ phase ⌝ }
     ensures { λ r. ⌜ (length r ≡ 5) × ((c : ℕ) → c < 5 → getD r c 0 ≡ barredFrom head phase c) ⌝ }
 {
     let own = alone(head.own);

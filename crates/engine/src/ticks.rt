@@ -43,25 +43,25 @@ pub fn tick(head: Head, ballots: &[u8], coin: u32) -> Ticked
     if number != 0 {
         return answer(number, head);
     }
-    let heard = after.head;
-    ended(head, heard, coin as u8)
+    let gathered = after.head;
+    ended(head, gathered, coin as u8)
 }
 
 // Numbers 9 to 11, of the head after steps 1 and 2; where none of them applies, the head after steps 3
 // and 4.
-fn ended(head: Head, heard: Head, coin: u8) -> Ticked
-    ensures { λ r. ⌜ r ≡ endedOf head heard coin ⌝ }
+fn ended(head: Head, gathered: Head, coin: u8) -> Ticked
+    ensures { λ r. ⌜ r ≡ endedOf head gathered coin ⌝ }
 {
-    if both_heard(heard) {
+    if both_heard(gathered) {
         return answer(9, head);
     }
-    if !quorum(heard) {
-        return finished(head, heard);
+    if !quorum(gathered) {
+        return finished(head, gathered);
     }
-    if 65535 <= heard.phase {
+    if 65535 <= gathered.phase {
         return answer(10, head);
     }
-    finished(head, risen(heard, coin))
+    finished(head, risen(gathered, coin))
 }
 
 // Number 11, or step 4.
@@ -94,8 +94,8 @@ fn listened(head: Head, ballots: &[u8]) -> Ticked
 
 // Of a list whose first refused ballot is at that index: 6 or 7 where one there or later gives it, else 8.
 fn refused(head: Head, ballots: &[u8], at: usize) -> Ticked
-    requires { ⌜ (at < ballotsOf (now ballots))
-        × (at ≡ first (ballotsOf (now ballots)) (refusedOf head (now ballots))) ⌝ }
+    requires { ⌜ at < ballotsOf (now ballots) ⌝ }
+    requires { ⌜ at ≡ first (ballotsOf (now ballots)) (refusedOf head (now ballots)) ⌝ }
     ensures { λ r. ⌜ r ≡ listenedOf head (now (ballots .entry)) ⌝ }
 {
     let count = ballots.len() / BALLOT_BYTES;

@@ -32,7 +32,7 @@ returns-2 : tie.Need-returns-2
 returns-2 c =
     let stands = sym (c .before .before .before .before .before .breaks-rule .ensures) ∙ c .before .before .before .before .if1 .left in
     c .otherwise .ensures
-    ∙ sym (ap (λ (t : Bool). t || otherwise (c .before .before .before .before .before .before .before .before .args .head) (c .before .before .before .before .before .before .before .before .args .ballots .now) (c .before .before .before .before .before .before .before .before .args .i)) (not-earlier (c .before .before .before .before .before .before .before .before .args .head) _ _ _ (c .before .before .before .before .before .before .before .before .pre .0) stands (c .before .before .before .before .before .before .before .before .pre .2) (ap (λ (s : ℕ). member s (c .before .before .before .before .before .before .before .before .args .elsewhere)) (sym (c .before .before .before .sender-at .ensures)) ∙ sym (c .before .before .has .ensures) ∙ not-true _ (c .before .if2 .taken))))
+    ∙ sym (ap (λ (t : Bool). t || otherwise (c .before .before .before .before .before .before .before .before .args .head) (c .before .before .before .before .before .before .before .before .args .ballots .now) (c .before .before .before .before .before .before .before .before .args .i)) (not-earlier (c .before .before .before .before .before .before .before .before .args .head) _ _ _ (c .before .before .before .before .before .before .before .before .pre .0) stands (c .before .before .before .before .before .before .before .before .pre .1 .1) (ap (λ (s : ℕ). member s (c .before .before .before .before .before .before .before .before .args .elsewhere)) (sym (c .before .before .before .sender-at .ensures)) ∙ sym (c .before .before .has .ensures) ∙ not-true _ (c .before .if2 .taken))))
     ∙ refused-parts _ _ _ stands
 
 first-differing-requires : tie.Need-first-differing-requires
