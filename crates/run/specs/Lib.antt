@@ -1,4 +1,5 @@
 pub mod Sections
+pub mod Plans
 pub mod Survey
 pub mod Small
 pub mod Writing

@@ -2,7 +2,7 @@
 use Prim.Native.Nat.{ℕ, _+_, _*_, _≤_, _<_}
 use mathlib.Core.Path.{_≡_, refl, sym, ap, ap₂, _∙_}
 use mathlib.Core.List.{List}
-use mathlib.Core.Bool.{Bool, true, false, not}
+use mathlib.Core.Bool.{Bool, true, false, cond, not}
 use native.Mathlib.Decide.{decLt}
 use native.Mathlib.Nat.{mul-le-mul}
 use native.Mathlib.Omega.{arith}
@@ -20,7 +20,7 @@ use Rattle.file.specs.declared.Plan.{Plan}
 use Rattle.file.specs.declared.Outcome.{Outcome}
 use Rattle.file.specs.Section.{countAt, bodyOf, counted, checked, notBit, notNeed, notRow, proposalsOf, neededOf}
 use Rattle.file.specs.Section.{lossesOf, coinsOf}
-use Rattle.file.specs.Plan.{refusedPlan, taken, closedOf, afterLosses, afterNeeded, afterProposals, planOf}
+use Rattle.file.specs.Plan.{refusedPlan, taken, planOf}
 use Rattle.file.specs.Table.{tableAfter}
 use Rattle.file.specs.Figures.{boundOf, outcomeOf}
 use Rattle.file.specs.Benched.{emptyTable}
@@ -115,100 +115,80 @@ module _ (file : List ℕ) (m : ℕ) (enough : 41002 ≤ m) (longer : m < length
             body-same (at + 2) size e,
           ) refl
 
-  taken-same : (section : Section) (f g : ℕ → ℕ → Plan)
-      → ((start size : ℕ) → section ≡ Body start size → f start size ≡ g start size) → taken section f ≡ taken section g
-  taken-same (Refused number place) f g same = refl
-  taken-same (Body start size) f g same = same start size refl
-
-  -- ---- the sections, the last first
-
-  losses-next : (room at n k rounds rows : ℕ) → at ≤ 32807 → n ≤ 32 → rounds ≤ 256
-      → afterLosses front room at n k rounds rows ≡ afterLosses file room at n k rounds rows
-  unfolding afterLosses coinsOf closedOf
-  losses-next room at n k rounds rows low few short =
-      ap (λ (section : Section). taken section next) section ∙ taken-same (coinsOf file at (rounds * n)) _ _ ends
+  -- sections that are read alike lead to one plan, where what comes next does
+  taken-same : (section other : Section) (f g : ℕ → ℕ → Plan) → section ≡ other
+      → ((start size : ℕ) → other ≡ Body start size → f start size ≡ g start size) → taken section f ≡ taken other g
+  taken-same section other f g e same = ap (λ (s : Section). taken s f) e ∙ go other same
     where
-      products : rounds * n ≤ 8192
-      products = mul-le-mul short few
+      go : (s : Section) → ((start size : ℕ) → s ≡ Body start size → f start size ≡ g start size)
+          → taken s f ≡ taken s g
+      go (Refused number place) same = refl
+      go (Body start size) same = same start size refl
 
-      Coins : List ℕ → Section
-      Coins f = coinsOf f at (rounds * n)
+  -- ---- the sections
 
-      made : ℕ → Plan
-      made start = record { number = 0; place = 0; n = n; needed = k; rounds = rounds; losses = rows; coins = start }
+  proposals-same : proposalsOf front ≡ proposalsOf file
+  unfolding proposalsOf
+  proposals-same =
+      ap (λ (c : ℕ). checked front 1 notBit (counted front 0 (notHeads c) c)) (count-same 0 (omega (arith, enough)))
+      ∙ section-same 0 (notHeads (countAt file 0)) (countAt file 0) 1 notBit (omega (arith, enough))
+      (λ e. let few = heads (countAt file 0) e in omega (arith, enough, few))
 
-      next : ℕ → ℕ → Plan
-      next start size = closedOf (length front) room (start + size) (made start)
-
-      section : coinsOf front at (rounds * n) ≡ coinsOf file at (rounds * n)
-      section =
-          ap (λ (c : ℕ). checked front 1 notBit (counted front at (not (eqb c (rounds * n))) (rounds * n)))
-          (count-same at (omega (arith, enough, low)))
-          ∙ section-same at _ (rounds * n) 1 notBit (omega (arith, enough, low))
-          (λ e. omega (arith, enough, low, products))
-
-      ends : (start size : ℕ) → coinsOf file at (rounds * n) ≡ Body start size
-          → next start size ≡ closedOf (length file) room (start + size) (made start)
-      ends start size e =
-          let C = coins-body file at (rounds * n) start size e in
-          let end : start + size ≤ 41001 = omega (arith, C .starts, C .sized, low, products) in
-          rw (
-            lt-ltb (start + size) (length front) (omega (arith, end, enough, front-length)),
-            lt-ltb (start + size) (length file) (omega (arith, end, enough, longer)),
-          ) refl
-
-  needed-next : (room at n k : ℕ) → at ≤ 37 → n ≤ 32 → afterNeeded front room at n k ≡ afterNeeded file room at n k
-  unfolding afterNeeded lossesOf
-  needed-next room at n k low few =
-      ap₂ (λ (section : Section) (rounds : ℕ). taken section
-      (λ start size. afterLosses front room (start + size) n k rounds start)) section
+  needed-same : (at n : ℕ) → at ≤ 34 → neededOf front at n ≡ neededOf file at n
+  unfolding neededOf
+  needed-same at n low =
+      ap (λ (c : ℕ). checked front 1 (notNeed n) (counted front at (not (eqb c 1)) 1))
       (count-same at (omega (arith, enough, low)))
-      ∙ taken-same (lossesOf file at n) _ _ (λ start size e.
-      let L = losses-body file at n start size e in
-      let products = mul-le-mul (L .rounds) few in
-      losses-next room (start + size) n k (countAt file at) start
-      (omega (arith, L .starts, L .sized, low, products)) few (L .rounds))
-    where
-      section : lossesOf front at n ≡ lossesOf file at n
-      section =
-          ap (λ (c : ℕ). checked front 4 (notRow n) (counted front at (ltb 256 c) (c * n * 4)))
-          (count-same at (omega (arith, enough, low)))
-          ∙ section-same at (ltb 256 (countAt file at)) (countAt file at * n * 4) 4 (notRow n)
-          (omega (arith, enough, low))
-          (λ e. let products = mul-le-mul (ltb-false 256 (countAt file at) e) few in omega
-          (arith, enough, low, products))
+      ∙ section-same at (not (eqb (countAt file at) 1)) 1 1 (notNeed n) (omega (arith, enough, low))
+      (λ e. omega (arith, enough, low))
 
-  proposals-next : (room at n : ℕ) → at ≤ 34 → n ≤ 32 → afterProposals front room at n ≡ afterProposals file room at n
-  unfolding afterProposals neededOf
-  proposals-next room at n low few =
-      ap (λ (section : Section). taken section
-      (λ start size. afterNeeded front room (start + size) n (getD front start 0))) section
-      ∙ taken-same (neededOf file at n) _ _ (λ start size e.
-      let N = needed-body file at n start size e in
-      ap (afterNeeded front room (start + size) n) (byte-same start (omega (arith, enough, low, N .starts)))
-      ∙ needed-next room (start + size) n (getD file start 0) (omega (arith, low, N .starts, N .single)) few)
-    where
-      section : neededOf front at n ≡ neededOf file at n
-      section =
-          ap (λ (c : ℕ). checked front 1 (notNeed n) (counted front at (not (eqb c 1)) 1))
-          (count-same at (omega (arith, enough, low)))
-          ∙ section-same at (not (eqb (countAt file at) 1)) 1 1 (notNeed n) (omega (arith, enough, low))
-          (λ e. omega (arith, enough, low))
+  losses-same : (at n : ℕ) → at ≤ 37 → n ≤ 32 → lossesOf front at n ≡ lossesOf file at n
+  unfolding lossesOf
+  losses-same at n low few =
+      ap (λ (c : ℕ). checked front 4 (notRow n) (counted front at (ltb 256 c) (c * n * 4)))
+      (count-same at (omega (arith, enough, low)))
+      ∙ section-same at (ltb 256 (countAt file at)) (countAt file at * n * 4) 4 (notRow n)
+      (omega (arith, enough, low))
+      (λ e. let products = mul-le-mul (ltb-false 256 (countAt file at) e) few in omega
+      (arith, enough, low, products))
+
+  coins-same : (at count : ℕ) → at ≤ 32807 → count ≤ 8192 → coinsOf front at count ≡ coinsOf file at count
+  unfolding coinsOf
+  coins-same at count low few =
+      ap (λ (c : ℕ). checked front 1 notBit (counted front at (not (eqb c count)) count))
+      (count-same at (omega (arith, enough, low)))
+      ∙ section-same at (not (eqb (countAt file at) count)) count 1 notBit (omega (arith, enough, low))
+      (λ e. omega (arith, enough, low, few))
+
+  -- both files go on after a last section that ends this early
+  ends-same : (end : ℕ) (p q : Plan) → end ≤ 41001
+      → cond (ltb end (length front)) (refusedPlan 15 end) p ≡ cond (ltb end (length file)) (refusedPlan 15 end) q
+  ends-same end p q low =
+      rw (
+        lt-ltb end (length front) (omega (arith, low, enough, front-length)),
+        lt-ltb end (length file) (omega (arith, low, enough, longer)),
+      ) refl
 
   pub plan-same : (room : ℕ) → planOf front room ≡ planOf file room
-  unfolding planOf proposalsOf
+  unfolding planOf
   plan-same room =
-      ap (λ (section : Section). taken section (λ start n. afterProposals front room (start + n) n)) section
-      ∙ taken-same (proposalsOf file) _ _ (λ start n e.
-      let P = proposals-body file start n e in
+      taken-same _ (proposalsOf file) _ _ proposals-same (λ proposals n p.
+      let P = proposals-body file proposals n p in
       let few : n ≤ 32 = omega (arith, P .heads) in
-      proposals-next room (start + n) n (omega (arith, P .starts, few)) few)
-    where
-      section : proposalsOf front ≡ proposalsOf file
-      section =
-          ap (λ (c : ℕ). checked front 1 notBit (counted front 0 (notHeads c) c)) (count-same 0 (omega (arith, enough)))
-          ∙ section-same 0 (notHeads (countAt file 0)) (countAt file 0) 1 notBit (omega (arith, enough))
-          (λ e. let few = heads (countAt file 0) e in omega (arith, enough, few))
+      let second : proposals + n ≤ 34 = omega (arith, P .starts, few) in
+      taken-same _ (neededOf file (proposals + n) n) _ _ (needed-same (proposals + n) n second) (λ k one q.
+      let N = needed-body file (proposals + n) n k one q in
+      let third : k + one ≤ 37 = omega (arith, N .starts, N .single, second) in
+      taken-same _ (lossesOf file (k + one) n) _ _ (losses-same (k + one) n third few) (λ losses size r.
+      let L = losses-body file (k + one) n losses size r in
+      let rows = mul-le-mul (L .rounds) few in
+      let fourth : losses + size ≤ 32807 = omega (arith, L .starts, L .sized, third, rows) in
+      let rounds = count-same (k + one) (omega (arith, enough, third)) in
+      taken-same _ (coinsOf file (losses + size) (countAt file (k + one) * n)) _ _
+      (ap (λ (c : ℕ). coinsOf front (losses + size) (c * n)) rounds ∙ coins-same (losses + size) _ fourth rows)
+      (λ coins count c.
+      let C = coins-body file (losses + size) (countAt file (k + one) * n) coins count c in
+      ends-same (coins + count) _ _ (omega (arith, C .starts, C .sized, fourth, rows))))))
 
   -- a file that goes on is refused, and so is its front, by the same number at the same place
   goes-on : planOf file 32 .number ≡ 0 → ⊥

@@ -19,7 +19,7 @@ use Rattle.file.specs.declared.Plan.{Plan}
 use Rattle.file.specs.Section.{countAt, counted, unlessBroken, checked, proposalsOf, neededOf, lossesOf, coinsOf}
 use Rattle.file.specs.Rules.{StandsIn, KeepsEveryRule}
 use Rattle.file.specs.Refusal.{sectionRefusals, BitAt, Need, LossRow, fileRefusals}
-use Rattle.file.specs.Plan.{refusedPlan, taken, closedOf, afterLosses, afterNeeded, afterProposals, planOf}
+use Rattle.file.specs.Plan.{refusedPlan, taken, planOf}
 use Rattle.file.proofs.reading.Sections.{Tells, tells-below, in-order, Meant, KeptSection, kept, tells-rule}
 use Rattle.file.proofs.reading.Sections.{tells-first}
 use Rattle.file.proofs.reading.Sections.{first-near, proposals-meant, needed-meant, losses-meant, coins-meant}
@@ -164,7 +164,7 @@ module _ (file : List ℕ) (room : ℕ) where
 
   -- the four sections, then 15 and 16
   answered : Answers (planOf file room) (fileRefusals file room)
-  unfolding planOf afterProposals afterNeeded afterLosses closedOf proposalsOf neededOf lossesOf coinsOf
+  unfolding planOf proposalsOf neededOf lossesOf coinsOf
   answered =
       section (proposals-meant file) _ _ (λ P.
       section (needed-meant file second n) _ _ (λ N.

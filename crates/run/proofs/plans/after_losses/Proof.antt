@@ -4,8 +4,8 @@ use lib.ListN.{length}
 use native.Mathlib.Omega.{arith}
 use native.Mathlib.Nat.{mul-le-mul}
 use borrow.Author.Needs.{needs}
-use Rattle.file.specs.Plan.{closedOf, afterLosses}
 use Rattle.file.proofs.reading.Sections.{coins-body}
+use Rattle.run.specs.Plans.{closedOf, afterLosses}
 use Rattle.run.proofs.Planning.{refused-section, next-section}
 use Rattle.run.proofs.plans.after_losses.Statement.{statement}
 use Rattle.run.proofs.plans.after_losses.Tie as tie

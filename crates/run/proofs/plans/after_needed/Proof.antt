@@ -3,8 +3,8 @@ use mathlib.Core.Path.{sym, ap, _∙_}
 use native.Mathlib.Nat.{mul-le-mul}
 use native.Mathlib.Omega.{arith}
 use borrow.Author.Needs.{needs}
-use Rattle.file.specs.Plan.{afterLosses, afterNeeded}
 use Rattle.file.proofs.reading.Sections.{losses-body}
+use Rattle.run.specs.Plans.{afterLosses, afterNeeded}
 use Rattle.run.proofs.Planning.{refused-section, next-section}
 use Rattle.run.proofs.plans.after_needed.Statement.{statement}
 use Rattle.run.proofs.plans.after_needed.Tie as tie

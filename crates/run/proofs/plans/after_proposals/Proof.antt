@@ -5,8 +5,8 @@ use native.Mathlib.Nat.{add-zero}
 use native.Mathlib.Omega.{arith}
 use lib.ListN.{getD}
 use borrow.Author.Needs.{needs}
-use Rattle.file.specs.Plan.{afterNeeded, afterProposals}
 use Rattle.file.proofs.reading.Sections.{needed-body}
+use Rattle.run.specs.Plans.{afterNeeded, afterProposals}
 use Rattle.run.proofs.Parts.{byte-of-part}
 use Rattle.run.proofs.Planning.{refused-section, next-section}
 use Rattle.run.proofs.plans.after_proposals.Statement.{statement}

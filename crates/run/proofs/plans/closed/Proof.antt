@@ -1,6 +1,6 @@
 use borrow.Author.Tests.{lt-ltb, le-ltb}
 use borrow.Author.Needs.{needs}
-use Rattle.file.specs.Plan.{closedOf}
+use Rattle.run.specs.Plans.{closedOf}
 use Rattle.run.proofs.plans.closed.Statement.{statement}
 use Rattle.run.proofs.plans.closed.Tie as tie
 

@@ -4,6 +4,7 @@ use borrow.Author.Needs.{needs}
 use Rattle.file.specs.declared.Plan.{Plan}
 use Rattle.file.specs.Plan.{planOf}
 use Rattle.file.proofs.reading.Sections.{proposals-body}
+use Rattle.run.specs.Plans.{closedOf, afterLosses, afterNeeded, afterProposals}
 use Rattle.run.proofs.Planning.{refused-section, next-section, body-begins}
 use Rattle.run.proofs.plans.plan_of.Statement.{statement}
 use Rattle.run.proofs.plans.plan_of.Tie as tie
@@ -33,7 +34,7 @@ after-proposals-requires c κs = let a = proposals-body (c .before .before .befo
     ((omega (arith, a .starts, a .heads), omega (arith, a .heads)), (ap (λ (p : Plan). p .number) zeros, ap (λ (p : Plan). p .place) zeros))
 
 returns-2 : tie.Need-returns-2
-unfolding planOf
+unfolding planOf afterProposals afterNeeded afterLosses closedOf
 returns-2 c = c .after-proposals .ensures ∙ next-section _ _ _ _ _ (c .before .before .section .given .1) (c .before .before .before .before .before .proposals .ensures)
 
 pub plan-of-spec : {M : Type 1} → statement M
