@@ -12,7 +12,7 @@ use Rattle.rules.specs.Ballot.{encode, readNumber}
 use Rattle.rules.specs.Head.{headWith, nobody, zeroHead, startNumber, sendOf}
 use Rattle.rules.specs.Tick.{tickNumber, tickOf, notList}
 use Rattle.rules.specs.Record.{startNumberFromC, recordAfterStart, tickNumberFromC, recordAfterTick, sendNumberFromC, bufferAfterSend}
-use Rattle.rules.specs.Sixteen.{ballot, start, head, holding}
+use Rattle.rules.specs.Sixteen.{ballot, start, head}
 use Rattle.rules.proofs.Computed.Computing.{computing}
 use mathlib.Core.Bool.{true, false}
 
@@ -47,14 +47,14 @@ ofBallotFromC r size number = record { gives = sendNumberFromC r (replicate size
 
 -- at phase 3, decided for 1
 abbrev decided : Head
-decided = head 3 3 One d ForOne
+decided = head 3 3 One d ForOne 0
 
 -- of five, at phase 1, that holds head 1 under 1; and the same at phase 3
 abbrev holds1 : Head
-holds1 = holding 5 1 One u none 2
+holds1 = head 5 1 One u none 2
 
 abbrev holds1at3 : Head
-holds1at3 = holding 5 3 One u none 2
+holds1at3 = head 5 3 One u none 2
 
 -- a started head's record, with its bytes 4 to 7, value, status, decision and the zero byte, as said
 abbrev coded : ℕ → ℕ → ℕ → ℕ → List ℕ
@@ -110,15 +110,15 @@ ticksByValue =
     -- "A head is sound when": one clause broken at a time
     ∷ ofTick (headWith 33 0 1 One u none nobody) [] 0 3
     ∷ ofTick (headWith 3 3 1 One u none nobody) [] 0 3
-    ∷ ofTick (head 3 1 Blank u none) [] 0 3
-    ∷ ofTick (head 3 3 One d none) [] 0 3
-    ∷ ofTick (head 3 3 One d ForZero) [] 0 3
-    ∷ ofTick (head 3 2 One u ForOne) [] 0 3
+    ∷ ofTick (head 3 1 Blank u none 0) [] 0 3
+    ∷ ofTick (head 3 3 One d none 0) [] 0 3
+    ∷ ofTick (head 3 3 One d ForZero 0) [] 0 3
+    ∷ ofTick (head 3 2 One u ForOne 0) [] 0 3
     ∷ ofTick (headWith 5 0 3 One u none (λ v. 2)) [] 0 3
-    ∷ ofTick (holding 3 1 One u none 8) [] 0 3
+    ∷ ofTick (head 3 1 One u none 8) [] 0 3
     ∷ ofTick (record { n = 5; own = 0; phase = 3; value = One; status = u; decision = none; zeros = 0; ones = 0; blanks = 2 }) [] 0 3
     ∷ ofTick (record { n = 5; own = 0; phase = 4; value = One; status = u; decision = none; zeros = 2; ones = 4; blanks = 0 }) [] 0 3
-    ∷ ofTick (holding 3 1 Zero u none 1) [] 0 3
+    ∷ ofTick (head 3 1 Zero u none 1) [] 0 3
     -- 5: "list length not a multiple of 5, or over 320 bytes"; before 6
     ∷ ofTick (start 3) (9 ∷ 9 ∷ 9 ∷ 9 ∷ 9 ∷ 9 ∷ []) 0 5
     -- 6 before 7 and 8, wherever in the list
@@ -217,6 +217,6 @@ unfolding computing
 what-is-left = refl
 
 -- "Heard sets now hold that phase's ballots only.": head 1, held at phase 1, is not held at phase 3
-pub a-list-replaces-what-was-held : tickOf holds1 (encode (ballot 2 3 One u ∷ ballot 1 1 One u ∷ [])) 0 .head ≡ holding 5 3 One u none 4
+pub a-list-replaces-what-was-held : tickOf holds1 (encode (ballot 2 3 One u ∷ ballot 1 1 One u ∷ [])) 0 .head ≡ head 5 3 One u none 4
 unfolding computing
 a-list-replaces-what-was-held = refl
