@@ -50,24 +50,21 @@ decisionWord ForZero = word "0"
 decisionWord ForOne = word "1"
 decisionWord Unwritten = word "none"
 
--- words one after the other
-abbrev pub joined : List (List ℕ) → List ℕ
-joined [] = []
-joined (w ∷ words) = w ++ joined words
+-- a word, and a number after it
+abbrev pub figure : String → ℕ → List ℕ
+figure name number = word name ++ decimal number
 
 -- "First line: n, k, the good-round bound."
-unfoldable pub firstLine : Outcome → List (List ℕ)
-firstLine o =
-    word "heads " ∷ decimal (o .n) ∷ word " need " ∷ decimal (o .needed) ∷ word " bound " ∷ decimal (o .bound)
-    ∷ word "\n" ∷ []
+unfoldable pub firstLine : Outcome → List ℕ
+firstLine o = figure "heads " (o .n) ++ figure " need " (o .needed) ++ figure " bound " (o .bound) ++ word "\n"
 
 -- "One line a head, its last state"
-unfoldable pub headLine : ℕ → Head → List (List ℕ)
+unfoldable pub headLine : ℕ → Head → List ℕ
 headLine s h =
-    word "head " ∷ decimal s ∷ word " phase " ∷ decimal (h .phase) ∷ word " value " ∷ valueWord (h .value)
-    ∷ word " status " ∷ statusWord (h .status) ∷ word " decision " ∷ decisionWord (h .decision) ∷ word "\n" ∷ []
+    figure "head " s ++ figure " phase " (h .phase) ++ word " value " ++ valueWord (h .value) ++ word " status "
+    ++ statusWord (h .status) ++ word " decision " ++ decisionWord (h .decision) ++ word "\n"
 
-unfoldable pub headLines : ℕ → List Head → List (List ℕ)
+unfoldable pub headLines : ℕ → List Head → List ℕ
 headLines zero heads = []
 headLines (suc k) heads = headLines k heads ++ headLine k (headOf heads k)
 
@@ -76,24 +73,22 @@ abbrev pub SameState : Head → Head → Type 0
 SameState h k = (h .phase ≡ k .phase) × (h .value ≡ k .value) × (h .status ≡ k .status) × (h .decision ≡ k .decision)
 
 -- "Last line: rounds run, good rounds, heads whose status is decided."
-unfoldable pub lastLine : Outcome → List (List ℕ)
-lastLine o =
-    word "rounds " ∷ decimal (o .rounds) ∷ word " good " ∷ decimal (o .good) ∷ word " decided " ∷ decimal (o .decided)
-    ∷ word "\n" ∷ []
+unfoldable pub lastLine : Outcome → List ℕ
+lastLine o = figure "rounds " (o .rounds) ++ figure " good " (o .good) ++ figure " decided " (o .decided) ++ word "\n"
 
 -- "A refusal prints one line only: refused, number, at, place"
-unfoldable pub refusalLine : Outcome → List (List ℕ)
-refusalLine o = word "refused " ∷ decimal (o .number) ∷ word " at " ∷ decimal (o .place) ∷ word "\n" ∷ []
+unfoldable pub refusalLine : Outcome → List ℕ
+refusalLine o = figure "refused " (o .number) ++ figure " at " (o .place) ++ word "\n"
 
 -- the whole report
-unfoldable pub linesOf : Benched → List (List ℕ)
+unfoldable pub linesOf : Benched → List ℕ
 linesOf b =
     let o = b .outcome in
     cond (eqb (o .number) 0) (firstLine o ++ headLines (o .n) (b .heads) ++ lastLine o) (refusalLine o)
 
 -- what the program prints for a file
 abbrev pub reportOf : List ℕ → List ℕ
-reportOf file = joined (linesOf (benchedOf file))
+reportOf file = linesOf (benchedOf file)
 
 -- a text of these bytes, the rest of it zero
 abbrev pub textOf : List ℕ → Text

@@ -2,16 +2,18 @@
 use Prim.Native.Nat.{ℕ, _≤_}
 use mathlib.Core.Path.{_≡_, refl, sym, ap, subst, _∙_}
 use mathlib.Core.List.{List, _++_}
+use native.Mathlib.Omega.{arith}
+use lib.ListN.{length-replicate}
 use borrow.Author.Tests.{eq-eqb, ne-eqb}
 use Rattle.file.specs.declared.Outcome.{Outcome}
 use Rattle.file.specs.declared.Benched.{Benched}
 use Rattle.file.specs.declared.Text.{Text}
 use Rattle.file.specs.Figures.{outcomeOf}
 use Rattle.file.specs.Benched.{benchedOf}
-use Rattle.file.specs.Report.{joined, firstLine, headLines, lastLine, refusalLine, linesOf, reportOf, textOf}
-use Rattle.run.specs.Writing.{noText, withAll}
+use Rattle.file.specs.Report.{firstLine, headLines, lastLine, refusalLine, linesOf, reportOf, textOf}
+use Rattle.run.specs.Writing.{Held, noText, withWord}
 use Rattle.run.proofs.Planned.{planned-room}
-use Rattle.run.proofs.Texts.{all-append, words-are-text, report-short}
+use Rattle.run.proofs.Texts.{word-word, word-is-text, report-short}
 
 -- a vote in the table of 32 has at most 32 heads
 pub benched-few : (file : List ℕ) → benchedOf file .outcome .n ≤ 32
@@ -20,23 +22,23 @@ benched-few file = planned-room file 32
 
 module _ (file : List ℕ) (done : Benched) (is : done ≡ benchedOf file) where
   -- what was written is the report, if it is the report's lines
-  lines-are-report : (text : Text) → text ≡ withAll noText (linesOf done) → text ≡ textOf (reportOf file)
+  lines-are-report : (text : Text) → text ≡ withWord noText (linesOf done) → text ≡ textOf (reportOf file)
   lines-are-report text e =
-      e ∙ words-are-text (linesOf done) (report-short done
+      e ∙ word-is-text (linesOf done) (report-short done
       (subst (λ (d : Benched). d .outcome .n ≤ 32) (sym is) (benched-few file)))
-      ∙ ap (λ (d : Benched). textOf (joined (linesOf d))) is
+      ∙ ap (λ (d : Benched). textOf (linesOf d)) is
 
   pub refusal-is-report : (none text : Text) → none ≡ noText → (done .outcome .number ≡ 0 → ⊥)
-      → text ≡ withAll none (refusalLine (done .outcome)) → text ≡ textOf (reportOf file)
+      → text ≡ withWord none (refusalLine (done .outcome)) → text ≡ textOf (reportOf file)
   unfolding linesOf
   refusal-is-report none text a refused e =
-      lines-are-report text (e ∙ ap (λ (t : Text). withAll t (refusalLine (done .outcome))) a
+      lines-are-report text (e ∙ ap (λ (t : Text). withWord t (refusalLine (done .outcome))) a
       ∙ rw (ne-eqb (done .outcome .number) 0 refused) refl)
 
   pub lines-report : (none first heads text : Text) → none ≡ noText → done .outcome .number ≡ 0
-      → first ≡ withAll none (firstLine (done .outcome))
-      → heads ≡ withAll first (headLines (done .outcome .n) (done .heads))
-      → text ≡ withAll heads (lastLine (done .outcome)) → text ≡ textOf (reportOf file)
+      → first ≡ withWord none (firstLine (done .outcome))
+      → heads ≡ withWord first (headLines (done .outcome .n) (done .heads))
+      → text ≡ withWord heads (lastLine (done .outcome)) → text ≡ textOf (reportOf file)
   unfolding linesOf
   lines-report none first heads text a accepted x y z =
       lines-are-report text (chain ∙ rw (eq-eqb (done .outcome .number) 0 accepted) refl)
@@ -44,10 +46,13 @@ module _ (file : List ℕ) (done : Benched) (is : done ≡ benchedOf file) where
       o : Outcome
       o = done .outcome
 
-      chain : text ≡ withAll noText (firstLine o ++ headLines (o .n) (done .heads) ++ lastLine o)
+      none-held : Held noText
+      none-held = (length-replicate {A = ℕ} 4096 0, omega arith)
+
+      chain : text ≡ withWord noText (firstLine o ++ headLines (o .n) (done .heads) ++ lastLine o)
       chain =
-          z ∙ ap (λ (t : Text). withAll t (lastLine o))
-          (y ∙ ap (λ (t : Text). withAll t (headLines (o .n) (done .heads)))
-          (x ∙ ap (λ (t : Text). withAll t (firstLine o)) a)
-          ∙ all-append noText (firstLine o) (headLines (o .n) (done .heads)))
-          ∙ all-append noText (firstLine o ++ headLines (o .n) (done .heads)) (lastLine o)
+          z ∙ ap (λ (t : Text). withWord t (lastLine o))
+          (y ∙ ap (λ (t : Text). withWord t (headLines (o .n) (done .heads)))
+          (x ∙ ap (λ (t : Text). withWord t (firstLine o)) a)
+          ∙ word-word noText (firstLine o) (headLines (o .n) (done .heads)) none-held)
+          ∙ word-word noText (firstLine o ++ headLines (o .n) (done .heads)) (lastLine o) none-held

@@ -1,12 +1,15 @@
--- Texts that grow: what a word at the end leaves, and that words one after the other are their bytes joined.
-use Prim.Native.Nat.{ℕ, zero, suc, _+_, _-_, _*_, _≤_, min}
+-- Texts that grow: what a word at the end leaves, and that words one after the other are their bytes.
+use Prim.Native.Nat.{ℕ, zero, suc, _+_, _-_, _*_, _≤_, _<_, min}
+use Prim.Native.String.{String}
 use mathlib.Core.Path.{_≡_, refl, sym, ap, ap₂, _∙_}
-use mathlib.Core.List.{List, [], _∷_, _++_, append-assoc, append-nil}
+use mathlib.Core.List.{List, [], _++_, append-assoc, append-nil}
 use mathlib.Core.Bool.{Bool, true, false, cond}
+use native.Mathlib.Decide.{decLt}
 use native.Mathlib.Omega.{arith}
 use lib.ListN.{length, take, drop, replicate, length-append}
 use lib.Dec.{eqb}
-use lib.Seq.{paste, length-paste, take-length, take-append-seam, drop-append-add}
+use lib.Seq.{paste, paste-zero, length-paste, take-paste, drop-paste, drop-drop, take-length, take-append-seam}
+use lib.Seq.{take-append-le, take-append-add, drop-append-add}
 use Rattle.rules.specs.declared.Value.{Value}
 use Rattle.rules.specs.declared.Value.the-variants.{Zero, One, Blank}
 use Rattle.rules.specs.declared.Status.{Status}
@@ -18,10 +21,10 @@ use Rattle.file.specs.declared.Outcome.{Outcome}
 use Rattle.file.specs.declared.Benched.{Benched}
 use Rattle.file.specs.declared.Text.{Text}
 use Rattle.file.specs.Table.{headOf}
-use Rattle.file.specs.Report.{valueWord, statusWord, decisionWord, joined, firstLine, headLine, headLines, lastLine}
-use Rattle.file.specs.Report.{refusalLine, linesOf, textOf}
+use Rattle.file.specs.Report.{word, decimal, figure, valueWord, statusWord, decisionWord, firstLine, headLine, headLines}
+use Rattle.file.specs.Report.{lastLine, refusalLine, linesOf, textOf}
 use Rattle.file.proofs.printing.Decimals.{decimal-short}
-use Rattle.run.specs.Writing.{Held, noText, fitting, withWord, withAll}
+use Rattle.run.specs.Writing.{Held, noText, fitting, withWord}
 
 -- a word leaves a text that holds no more than its bytes
 pub word-held : (text : Text) (word : List ℕ) → Held text → Held (withWord text word)
@@ -39,12 +42,73 @@ pub written : (text : Text) (word bytes : List ℕ) (many : ℕ) → bytes
 unfolding withWord
 written text word bytes many a b = rw (a, b) refl
 
--- words after words
-pub all-append : (text : Text) (words more : List (List ℕ))
-    → withAll (withAll text words) more ≡ withAll text (words ++ more)
-unfolding withAll
-all-append text [] more = refl
-all-append text (word ∷ words) more = all-append (withWord text word) words more
+abbrev as-text : List ℕ → ℕ → Text
+as-text bytes many = record { bytes = bytes; length = many }
+
+-- no word changes nothing
+pub word-none : (text : Text) → text ≡ withWord text []
+unfolding withWord
+word-none text =
+    let none : fitting text [] ≡ 0 = omega arith in
+    let same : text .length ≡ text .length + 0 = omega arith in
+    rw none (ap₂ (λ (b : List ℕ) (l : ℕ). as-text b l) (paste-zero (text .bytes) (text .length) []) same)
+
+-- two words as far as there is room
+take-both : (a b : List ℕ) (f g : ℕ) → f ≤ length a → (f < length a → g ≡ 0)
+    → take (f + g) (a ++ b) ≡ take f a ++ take g b
+take-both a b f g low full = go (decLt f (length a))
+  where
+    go : Dec (f < length a) → take (f + g) (a ++ b) ≡ take f a ++ take g b
+    go (yes cut) =
+        let none = full cut in
+        let all : f + 0 ≡ f = omega arith in
+        rw none
+        (take-append-le (f + 0) a b (omega arith) ∙ ap (λ (k : ℕ). take k a) all ∙ sym (append-nil (take f a)))
+    go (no whole) =
+        let all : f ≡ length a = omega (arith, low, whole) in
+        rw all (take-append-add a b g ∙ ap (λ (l : List ℕ). l ++ take g b) (sym (take-length a)))
+
+-- a word after a word is both at once
+pub word-word : (text : Text) (a b : List ℕ) → Held text → withWord (withWord text a) b ≡ withWord text (a ++ b)
+unfolding withWord
+word-word text a b held = ap₂ (λ (l : List ℕ) (k : ℕ). as-text l k) front (omega (arith, both))
+  where
+    B : List ℕ
+    B = text .bytes
+
+    at : ℕ
+    at = text .length
+
+    f : ℕ
+    f = fitting text a
+
+    g : ℕ
+    g = min (length b) (4096 - (at + f))
+
+    both : fitting text (a ++ b) ≡ f + g
+    both = omega (arith, length-append a b, held .1)
+
+    rest : drop (at + f + g) (paste B at a f) ≡ drop (at + (f + g)) B
+    rest =
+        let sum : at + f + g ≡ at + (f + g) = omega arith in
+        sym (drop-drop g (at + f) (paste B at a f))
+        ∙ ap (drop g) (drop-paste B at a f (omega (arith, held .0, held .1)) (omega arith))
+        ∙ drop-drop g (at + f) B ∙ ap (λ (k : ℕ). drop k B) sum
+
+    front : paste (paste B at a f) (at + f) b g ≡ paste B at (a ++ b) (fitting text (a ++ b))
+    front =
+        ap₂ (λ (x y : List ℕ). x ++ take g b ++ y)
+        (take-paste B at a f (omega (arith, held .0, held .1)) (omega arith)) rest
+        ∙ ap (λ (x : List ℕ). x ++ drop (at + (f + g)) B)
+        (append-assoc (take at B) (take f a) (take g b)
+        ∙ ap (λ (x : List ℕ). take at B ++ x) (sym (take-both a b f g (omega arith) (λ cut. omega (arith, cut)))))
+        ∙ ap (paste B at (a ++ b)) (sym both)
+
+-- a text with what was said so far, and with a word more
+pub then-word : (text before after : Text) (said word : List ℕ) → Held text → before ≡ withWord text said
+    → after ≡ withWord before word → after ≡ withWord text (said ++ word)
+then-word text before after said word held e f =
+    f ∙ ap (λ (t : Text). withWord t word) e ∙ word-word text said word held
 
 -- ---- the bytes, as long as there is room
 
@@ -60,9 +124,6 @@ word-is : (bytes word : List ℕ) → length bytes + length word ≤ 4096
 unfolding withWord
 word-is bytes word room = ap₂ (λ (b : List ℕ) (l : ℕ). as-text b l) front long
   where
-    as-text : List ℕ → ℕ → Text
-    as-text b l = record { bytes = b; length = l }
-
     zeros : List ℕ
     zeros = replicate (4096 - length bytes) 0
 
@@ -87,92 +148,73 @@ word-is bytes word room = ap₂ (λ (b : List ℕ) (l : ℕ). as-text b l) front
     long : length bytes + min (length word) (4096 - length bytes) ≡ length (bytes ++ word)
     long = omega (arith, length-append bytes word)
 
--- and words
-all-is : (bytes : List ℕ) (words : List (List ℕ)) → length bytes + length (joined words) ≤ 4096
-    → withAll (textOf bytes) words ≡ textOf (bytes ++ joined words)
-unfolding withAll
-all-is bytes [] room = sym (ap textOf (append-nil bytes))
-all-is bytes (word ∷ words) room =
-    ap (λ (t : Text). withAll t words) (word-is bytes word (omega (arith, room, length-append word (joined words))))
-    ∙ all-is (bytes ++ word) words (omega (arith, room, length-append word (joined words), length-append bytes word))
-    ∙ ap textOf (append-assoc bytes word (joined words))
-
--- from nothing: the words' bytes joined
-pub words-are-text : (words : List (List ℕ)) → length (joined words) ≤ 4096
-    → withAll noText words ≡ textOf (joined words)
-words-are-text words room = all-is [] words (omega (arith, room))
+-- from nothing: the word's bytes
+pub word-is-text : (word : List ℕ) → length word ≤ 4096 → withWord noText word ≡ textOf word
+word-is-text word room = word-is [] word (omega (arith, room))
 
 -- ---- a report is short
 
--- how many bytes words have
-joined-append : (words more : List (List ℕ)) → joined (words ++ more) ≡ joined words ++ joined more
-joined-append [] more = refl
-joined-append (word ∷ words) more =
-    ap (λ (rest : List ℕ). word ++ rest) (joined-append words more)
-    ∙ sym (append-assoc word (joined words) (joined more))
+record Short (bytes : List ℕ) (most : ℕ) : Type 0 where
+  fits : length bytes ≤ most
 
-abbrev total : List (List ℕ) → ℕ
-total [] = 0
-total (word ∷ words) = length word + total words
+both : {a b : List ℕ} {k l : ℕ} → Short a k → Short b l → Short (a ++ b) (k + l)
+both {a} {b} x y = record { fits = omega (arith, length-append a b, x .fits, y .fits) }
 
-total-is : (words : List (List ℕ)) → length (joined words) ≡ total words
-total-is [] = refl
-total-is (word ∷ words) = length-append word (joined words) ∙ ap (λ (k : ℕ). length word + k) (total-is words)
+a-word : (name : String) → Short (word name) (length (word name))
+a-word name = record { fits = omega arith }
 
-total-append : (words more : List (List ℕ)) → total (words ++ more) ≡ total words + total more
-total-append [] more = omega arith
-total-append (word ∷ words) more = let i = total-append words more in omega (arith, i)
+a-figure : (name : String) (number : ℕ) → Short (figure name number) (length (word name) + 20)
+a-figure name number = both (a-word name) (record { fits = decimal-short number })
 
-value-short : (v : Value) → length (valueWord v) ≤ 5
-value-short Zero = omega arith
-value-short One = omega arith
-value-short Blank = omega arith
+a-value : (v : Value) → Short (valueWord v) 5
+a-value Zero = record { fits = omega arith }
+a-value One = record { fits = omega arith }
+a-value Blank = record { fits = omega arith }
 
-status-short : (s : Status) → length (statusWord s) ≤ 9
-status-short Undecided = omega arith
-status-short Decided = omega arith
+a-status : (s : Status) → Short (statusWord s) 9
+a-status Undecided = record { fits = omega arith }
+a-status Decided = record { fits = omega arith }
 
-decision-short : (d : Decision) → length (decisionWord d) ≤ 4
-decision-short ForZero = omega arith
-decision-short ForOne = omega arith
-decision-short Unwritten = omega arith
+a-decision : (d : Decision) → Short (decisionWord d) 4
+a-decision ForZero = record { fits = omega arith }
+a-decision ForOne = record { fits = omega arith }
+a-decision Unwritten = record { fits = omega arith }
 
-line-short : (s : ℕ) (h : Head) → total (headLine s h) ≤ 96
+line-short : (s : ℕ) (h : Head) → length (headLine s h) ≤ 96
 unfolding headLine
 line-short s h =
-    omega (
-      arith,
-      decimal-short s,
-      decimal-short (h .phase),
-      value-short (h .value),
-      status-short (h .status),
-      decision-short (h .decision),
-    )
+    both (both (both (both (both (both (both (both (a-figure "head " s) (a-figure " phase " (h .phase)))
+    (a-word " value ")) (a-value (h .value))) (a-word " status ")) (a-status (h .status))) (a-word " decision "))
+    (a-decision (h .decision))) (a-word "\n") .fits
 
-lines-short : (n : ℕ) (heads : List Head) → total (headLines n heads) ≤ n * 96
+lines-short : (n : ℕ) (heads : List Head) → length (headLines n heads) ≤ n * 96
 unfolding headLines
 lines-short zero heads = omega arith
 lines-short (suc k) heads =
     omega (
       arith,
-      total-append (headLines k heads) (headLine k (headOf heads k)),
+      length-append (headLines k heads) (headLine k (headOf heads k)),
       lines-short k heads,
       line-short k (headOf heads k),
     )
 
-first-short : (o : Outcome) → total (firstLine o) ≤ 80
+first-short : (o : Outcome) → length (firstLine o) ≤ 80
 unfolding firstLine
-first-short o = omega (arith, decimal-short (o .n), decimal-short (o .needed), decimal-short (o .bound))
+first-short o =
+    both (both (both (a-figure "heads " (o .n)) (a-figure " need " (o .needed))) (a-figure " bound " (o .bound)))
+    (a-word "\n") .fits
 
-last-short : (o : Outcome) → total (lastLine o) ≤ 83
+last-short : (o : Outcome) → length (lastLine o) ≤ 83
 unfolding lastLine
-last-short o = omega (arith, decimal-short (o .rounds), decimal-short (o .good), decimal-short (o .decided))
+last-short o =
+    both (both (both (a-figure "rounds " (o .rounds)) (a-figure " good " (o .good)))
+    (a-figure " decided " (o .decided))) (a-word "\n") .fits
 
-refusal-short : (o : Outcome) → total (refusalLine o) ≤ 53
+refusal-short : (o : Outcome) → length (refusalLine o) ≤ 53
 unfolding refusalLine
-refusal-short o = omega (arith, decimal-short (o .number), decimal-short (o .place))
+refusal-short o = both (both (a-figure "refused " (o .number)) (a-figure " at " (o .place))) (a-word "\n") .fits
 
-pub report-short : (b : Benched) → b .outcome .n ≤ 32 → length (joined (linesOf b)) ≤ 4096
+pub report-short : (b : Benched) → b .outcome .n ≤ 32 → length (linesOf b) ≤ 4096
 unfolding linesOf
 report-short b few = go (eqb (b .outcome .number) 0)
   where
@@ -180,7 +222,7 @@ report-short b few = go (eqb (b .outcome .number) 0)
     o = b .outcome
 
     go : (t : Bool)
-        → length (joined (cond t (firstLine o ++ headLines (o .n) (b .heads) ++ lastLine o) (refusalLine o))) ≤ 4096
+        → length (cond t (firstLine o ++ headLines (o .n) (b .heads) ++ lastLine o) (refusalLine o)) ≤ 4096
     go true =
         omega (
           arith,
@@ -188,8 +230,7 @@ report-short b few = go (eqb (b .outcome .number) 0)
           first-short o,
           last-short o,
           lines-short (o .n) (b .heads),
-          total-is (firstLine o ++ headLines (o .n) (b .heads) ++ lastLine o),
-          total-append (firstLine o ++ headLines (o .n) (b .heads)) (lastLine o),
-          total-append (firstLine o) (headLines (o .n) (b .heads)),
+          length-append (firstLine o ++ headLines (o .n) (b .heads)) (lastLine o),
+          length-append (firstLine o) (headLines (o .n) (b .heads)),
         )
-    go false = omega (arith, total-is (refusalLine o), refusal-short o)
+    go false = omega (arith, refusal-short o)

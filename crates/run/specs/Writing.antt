@@ -1,7 +1,7 @@
 -- What the functions of `run` that write the report hand to one another.
 use Prim.Native.Nat.{ℕ, _+_, _-_, _≤_, min}
 use mathlib.Core.Path.{_≡_}
-use mathlib.Core.List.{List, [], _∷_}
+use mathlib.Core.List.{List}
 use lib.ListN.{length, replicate}
 use lib.Seq.{paste}
 use Rattle.file.specs.declared.Text.{Text}
@@ -21,8 +21,3 @@ fitting text word = min (length word) (4096 - text .length)
 unfoldable pub withWord : Text → List ℕ → Text
 withWord text word =
     record { bytes = paste (text .bytes) (text .length) word (fitting text word); length = text .length + fitting text word }
-
--- with words one after the other
-unfoldable pub withAll : Text → List (List ℕ) → Text
-withAll text [] = text
-withAll text (word ∷ words) = withAll (withWord text word) words

@@ -4,7 +4,7 @@ ghost use Prim.Native.Nat.{_≤_};
 ghost use lib.ListN.{length};
 ghost use Rattle.file.specs.Report.{valueWord, statusWord, decisionWord};
 ghost use Rattle.file.specs.Report.{firstLine, headLine, headLines, lastLine, refusalLine};
-ghost use Rattle.run.specs.Writing.{Held, withWord, withAll};
+ghost use Rattle.run.specs.Writing.{Held, withWord};
 use crate::text::with_figure;
 use crate::text::with_word;
 use file::Outcome;
@@ -16,7 +16,7 @@ use rules::Value;
 
 pub(crate) fn refusal_line(text: Text, outcome: Outcome) -> Text
     requires { ⌜ Held text ⌝ }
-    ensures { λ r. ⌜ r ≡ withAll text (refusalLine outcome) ⌝ }
+    ensures { λ r. ⌜ r ≡ withWord text (refusalLine outcome) ⌝ }
     ensures { λ r. ⌜ Held r ⌝ }
 {
     let a = with_figure(text, b"refused ", outcome.number as usize);
@@ -26,7 +26,7 @@ pub(crate) fn refusal_line(text: Text, outcome: Outcome) -> Text
 
 pub(crate) fn first_line(text: Text, outcome: Outcome) -> Text
     requires { ⌜ Held text ⌝ }
-    ensures { λ r. ⌜ r ≡ withAll text (firstLine outcome) ⌝ }
+    ensures { λ r. ⌜ r ≡ withWord text (firstLine outcome) ⌝ }
     ensures { λ r. ⌜ Held r ⌝ }
 {
     let a = with_figure(text, b"heads ", outcome.n);
@@ -37,7 +37,7 @@ pub(crate) fn first_line(text: Text, outcome: Outcome) -> Text
 
 pub(crate) fn last_line(text: Text, outcome: Outcome) -> Text
     requires { ⌜ Held text ⌝ }
-    ensures { λ r. ⌜ r ≡ withAll text (lastLine outcome) ⌝ }
+    ensures { λ r. ⌜ r ≡ withWord text (lastLine outcome) ⌝ }
     ensures { λ r. ⌜ Held r ⌝ }
 {
     let a = with_figure(text, b"rounds ", outcome.rounds);
@@ -49,7 +49,7 @@ pub(crate) fn last_line(text: Text, outcome: Outcome) -> Text
 // One line for each of the first n heads.
 pub(crate) fn head_lines(text: Text, heads: [Head; 32], n: usize) -> Text
     requires { ⌜ (n ≤ 32) × Held text ⌝ }
-    ensures { λ r. ⌜ r ≡ withAll text (headLines n heads) ⌝ }
+    ensures { λ r. ⌜ r ≡ withWord text (headLines n heads) ⌝ }
     ensures { λ r. ⌜ Held r ⌝ }
 {
     let mut lines = text;
@@ -64,7 +64,7 @@ pub(crate) fn head_lines(text: Text, heads: [Head; 32], n: usize) -> Text
 
 fn head_line(text: Text, s: usize, head: Head) -> Text
     requires { ⌜ Held text ⌝ }
-    ensures { λ r. ⌜ r ≡ withAll text (headLine s head) ⌝ }
+    ensures { λ r. ⌜ r ≡ withWord text (headLine s head) ⌝ }
     ensures { λ r. ⌜ Held r ⌝ }
 {
     let value = head.value;

@@ -1,5 +1,6 @@
 // A text by value that grows at its end. What goes beyond 4,096 bytes is left out; no report does.
 ghost use mathlib.Core.Path.{_≡_};
+ghost use mathlib.Core.List.{_++_};
 ghost use Rattle.file.specs.Report.{decimal};
 ghost use Rattle.run.specs.Writing.{Held, noText, withWord};
 use crate::places::least;
@@ -19,7 +20,7 @@ pub(crate) fn empty() -> Text
 // A word, and a number after it.
 pub(crate) fn with_figure(text: Text, word: &[u8], number: usize) -> Text
     requires { ⌜ Held text ⌝ }
-    ensures { λ r. ⌜ r ≡ withWord (withWord text (now (word .entry))) (decimal number) ⌝ }
+    ensures { λ r. ⌜ r ≡ withWord text (now (word .entry) ++ decimal number) ⌝ }
     ensures { λ r. ⌜ Held r ⌝ }
 {
     with_number(with_word(text, word), number)

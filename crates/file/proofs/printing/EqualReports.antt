@@ -23,7 +23,7 @@ use Rattle.file.specs.Table.{headOf, rowsIn, tableAfter}
 use Rattle.file.specs.Figures.{lostIn, boundOf, goodIn, decidedIn, outcomeOf}
 use Rattle.file.specs.Vote.{voteFor, eventsFor}
 use Rattle.file.specs.Benched.{emptyTable, benchedOf}
-use Rattle.file.specs.Report.{joined, firstLine, headLines, lastLine, refusalLine, linesOf, reportOf, SameState}
+use Rattle.file.specs.Report.{firstLine, headLines, lastLine, refusalLine, linesOf, reportOf, SameState}
 use Rattle.file.proofs.reading.Plans.{RuleByRule, RefusedFile, accepted-file, refused-file}
 use Rattle.file.proofs.running.BenchIsRun.{heads-are, rounds-are-run, events-length}
 use Rattle.file.proofs.reading.FirstBytes.{refused-outcome}
@@ -141,7 +141,7 @@ unfolding linesOf
 refused-lines b some = rw (ne-eqb (b .outcome .number) 0 some) refl
 
 -- "heads" and "refused" have different first letters
-letters-differ : (o p : Outcome) (more : List (List ℕ)) → joined (firstLine o ++ more) ≡ joined (refusalLine p) → ⊥
+letters-differ : (o p : Outcome) (more : List ℕ) → firstLine o ++ more ≡ refusalLine p → ⊥
 unfolding firstLine refusalLine
 letters-differ o p more e = let z : _≡_ {A = ℕ} 104 114 = ap (λ (l : List ℕ). getD l 0 0) e in omega (arith, z)
 
@@ -173,24 +173,24 @@ module _ (file other : List ℕ) (short : length file < 2 ^ 64) (brief : length 
       place : (f : List ℕ) → length f < 2 ^ 64 → benchedOf f .outcome .number ≡ 0 → benchedOf f .outcome .place ≡ 0
       place f s zero = place-is f s ∙ accepted-file f 32 (sym (number-is f s) ∙ zero) .place
 
-      lines : joined (firstLine o ++ (headLines (o .n) (benchedOf file .heads) ++ lastLine o))
-          ≡ joined (firstLine p ++ (headLines (p .n) (benchedOf other .heads) ++ lastLine p))
-      lines = sym (ap joined (accepted-lines (benchedOf file) a)) ∙ e ∙ ap joined (accepted-lines (benchedOf other) b)
+      lines : firstLine o ++ (headLines (o .n) (benchedOf file .heads) ++ lastLine o)
+          ≡ firstLine p ++ (headLines (p .n) (benchedOf other .heads) ++ lastLine p)
+      lines = sym (accepted-lines (benchedOf file) a) ∙ e ∙ accepted-lines (benchedOf other) b
 
       x : (o .n ≡ p .n) × (o .needed ≡ p .needed) × (o .bound ≡ p .bound)
-          × (joined (headLines (o .n) (benchedOf file .heads) ++ lastLine o)
-          ≡ joined (headLines (p .n) (benchedOf other .heads) ++ lastLine p))
+          × (headLines (o .n) (benchedOf file .heads) ++ lastLine o
+          ≡ headLines (p .n) (benchedOf other .heads) ++ lastLine p)
       x =
           first-apart o p (headLines (o .n) (benchedOf file .heads) ++ lastLine o)
           (headLines (p .n) (benchedOf other .heads) ++ lastLine p) (small file short) (small other brief) lines
 
       y : ((s : ℕ) → s < o .n → SameState (headOf (benchedOf file .heads) s) (headOf (benchedOf other .heads) s))
-          × (joined (lastLine o) ≡ joined (lastLine p))
+          × (lastLine o ≡ lastLine p)
       y =
           lines-apart (benchedOf file .heads) (benchedOf other .heads) (o .n) (lastLine o) (lastLine p)
           (small file short .n)
           (phases-small file short a) (λ s h. phases-small other brief b s (omega (arith, h, x .0)))
-          (x .3 ∙ ap (λ (n : ℕ). joined (headLines n (benchedOf other .heads) ++ lastLine p)) (sym (x .0)))
+          (x .3 ∙ ap (λ (n : ℕ). headLines n (benchedOf other .heads) ++ lastLine p) (sym (x .0)))
 
       z : (o .rounds ≡ p .rounds) × (o .good ≡ p .good) × (o .decided ≡ p .decided)
       z = last-apart o p (small file short) (small other brief) (y .1)
@@ -226,7 +226,7 @@ module _ (file other : List ℕ) (short : length file < 2 ^ 64) (brief : length 
       same : (o .number ≡ p .number) × (o .place ≡ p .place)
       same =
           refusal-apart o p (small file short) (small other brief)
-          (sym (ap joined (refused-lines (benchedOf file) a)) ∙ e ∙ ap joined (refused-lines (benchedOf other) b))
+          (sym (refused-lines (benchedOf file) a) ∙ e ∙ refused-lines (benchedOf other) b)
 
       is : o ≡ p
       is =
@@ -245,8 +245,8 @@ module _ (file other : List ℕ) (short : length file < 2 ^ 64) (brief : length 
       go (yes a) (no b) =
           absurd
           (letters-differ o p _
-          (sym (ap joined (accepted-lines (benchedOf file) a)) ∙ e ∙ ap joined (refused-lines (benchedOf other) b)))
+          (sym (accepted-lines (benchedOf file) a) ∙ e ∙ refused-lines (benchedOf other) b))
       go (no a) (yes b) =
           absurd
           (letters-differ p o _
-          (sym (ap joined (accepted-lines (benchedOf other) b)) ∙ sym e ∙ ap joined (refused-lines (benchedOf file) a)))
+          (sym (accepted-lines (benchedOf other) b) ∙ sym e ∙ refused-lines (benchedOf file) a))

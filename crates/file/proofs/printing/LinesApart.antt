@@ -9,7 +9,7 @@ use lib.Dec.{lit<}
 use Rattle.rules.specs.declared.Head.{Head}
 use Rattle.file.specs.declared.Outcome.{Outcome}
 use Rattle.file.specs.Table.{headOf}
-use Rattle.file.specs.Report.{decimal, joined, firstLine, headLine, headLines, lastLine, refusalLine, SameState}
+use Rattle.file.specs.Report.{word, decimal, figure, firstLine, headLine, headLines, lastLine, refusalLine, SameState}
 use Rattle.file.proofs.printing.Decimals.{decimal-tells, decimal-lacks}
 use Rattle.file.proofs.printing.WordsApart.{apart, value-apart, status-apart, decision-apart}
 
@@ -41,41 +41,45 @@ newline = lit< tt
 
 -- "refused, number, at, place"
 pub refusal-apart : (o p : Outcome) → PrintableOutcome o → PrintableOutcome p
-    → joined (refusalLine o) ≡ joined (refusalLine p) → (o .number ≡ p .number) × (o .place ≡ p .place)
+    → refusalLine o ≡ refusalLine p → (o .number ≡ p .number) × (o .place ≡ p .place)
 unfolding refusalLine
 refusal-apart o p a b e =
-    let x = number-apart 32 (o .number) (p .number) space (a .number) (b .number) (ap (drop 8) e) in
+    let x = number-apart 32 (o .number) (p .number) space (a .number) (b .number) (simp append-assoc at (ap (drop 8) e)) in
     let y = number-apart 10 (o .place) (p .place) newline (a .place) (b .place) (ap (drop 3) (x .1)) in
     (x .0, y .0)
 
 -- "First line: n, k, the good-round bound."
-pub first-apart : (o p : Outcome) (more less : List (List ℕ)) → PrintableOutcome o → PrintableOutcome p
-    → joined (firstLine o ++ more) ≡ joined (firstLine p ++ less)
-    → (o .n ≡ p .n) × (o .needed ≡ p .needed) × (o .bound ≡ p .bound) × (joined more ≡ joined less)
+pub first-apart : (o p : Outcome) (more less : List ℕ) → PrintableOutcome o → PrintableOutcome p
+    → firstLine o ++ more ≡ firstLine p ++ less
+    → (o .n ≡ p .n) × (o .needed ≡ p .needed) × (o .bound ≡ p .bound) × (more ≡ less)
 unfolding firstLine
 first-apart o p more less a b e =
-    let x = number-apart 32 (o .n) (p .n) space (a .n) (b .n) (ap (drop 6) e) in
+    let f : decimal (o .n) ++ figure " need " (o .needed) ++ figure " bound " (o .bound) ++ word "\n" ++ more
+    ≡ decimal (p .n) ++ figure " need " (p .needed) ++ figure " bound " (p .bound) ++ word "\n" ++ less = ap (drop 6) e in
+    let x = number-apart 32 (o .n) (p .n) space (a .n) (b .n) (simp append-assoc at f) in
     let y = number-apart 32 (o .needed) (p .needed) space (a .needed) (b .needed) (ap (drop 5) (x .1)) in
     let z = number-apart 10 (o .bound) (p .bound) newline (a .bound) (b .bound) (ap (drop 6) (y .1)) in
     (x .0, y .0, z .0, z .1)
 
 -- "Last line: rounds run, good rounds, heads whose status is decided."
-pub last-apart : (o p : Outcome) → PrintableOutcome o → PrintableOutcome p → joined (lastLine o) ≡ joined (lastLine p)
+pub last-apart : (o p : Outcome) → PrintableOutcome o → PrintableOutcome p → lastLine o ≡ lastLine p
     → (o .rounds ≡ p .rounds) × (o .good ≡ p .good) × (o .decided ≡ p .decided)
 unfolding lastLine
 last-apart o p a b e =
-    let x = number-apart 32 (o .rounds) (p .rounds) space (a .rounds) (b .rounds) (ap (drop 7) e) in
+    let f : decimal (o .rounds) ++ figure " good " (o .good) ++ figure " decided " (o .decided) ++ word "\n"
+    ≡ decimal (p .rounds) ++ figure " good " (p .good) ++ figure " decided " (p .decided) ++ word "\n" = ap (drop 7) e in
+    let x = number-apart 32 (o .rounds) (p .rounds) space (a .rounds) (b .rounds) (simp append-assoc at f) in
     let y = number-apart 32 (o .good) (p .good) space (a .good) (b .good) (ap (drop 5) (x .1)) in
     let z = number-apart 10 (o .decided) (p .decided) newline (a .decided) (b .decided) (ap (drop 8) (y .1)) in
     (x .0, y .0, z .0)
 
 -- "One line a head, its last state"
-head-apart : (s : ℕ) (h k : Head) (more less : List (List ℕ)) → Printable s → Printable (h .phase)
+head-apart : (s : ℕ) (h k : Head) (more less : List ℕ) → Printable s → Printable (h .phase)
     → Printable (k .phase)
-    → joined (headLine s h ++ more) ≡ joined (headLine s k ++ less) → SameState h k × (joined more ≡ joined less)
+    → headLine s h ++ more ≡ headLine s k ++ less → SameState h k × (more ≡ less)
 unfolding headLine
 head-apart s h k more less few a b e =
-    let v = number-apart 32 s s space few few (ap (drop 5) e) in
+    let v = number-apart 32 s s space few few (simp append-assoc at (ap (drop 5) e)) in
     let w = number-apart 32 (h .phase) (k .phase) space a b (ap (drop 6) (v .1)) in
     let x = value-apart 32 (h .value) (k .value) space (ap (drop 6) (w .1)) in
     let y = status-apart 32 (h .status) (k .status) space (ap (drop 7) (x .1)) in
@@ -84,20 +88,20 @@ head-apart s h k more less few a b e =
 
 module _ (hs ks : List Head) where
   -- the first n heads' lines, whatever comes after them
-  pub lines-apart : (n : ℕ) (more less : List (List ℕ)) → Printable n
+  pub lines-apart : (n : ℕ) (more less : List ℕ) → Printable n
       → ((s : ℕ) → s < n → Printable (headOf hs s .phase))
       → ((s : ℕ) → s < n → Printable (headOf ks s .phase))
-      → joined (headLines n hs ++ more) ≡ joined (headLines n ks ++ less)
-      → ((s : ℕ) → s < n → SameState (headOf hs s) (headOf ks s)) × (joined more ≡ joined less)
+      → headLines n hs ++ more ≡ headLines n ks ++ less
+      → ((s : ℕ) → s < n → SameState (headOf hs s) (headOf ks s)) × (more ≡ less)
   unfolding headLines
   lines-apart zero more less few a b e = (λ s h. absurd (omega arith), e)
   lines-apart (suc k) more less few a b e =
       let upTo =
       lines-apart k (headLine k (headOf hs k) ++ more) (headLine k (headOf ks k) ++ less) (omega (arith, few))
       (λ s h. a s (omega arith)) (λ s h. b s (omega arith))
-      (sym (ap joined (append-assoc (headLines k hs) (headLine k (headOf hs k)) more))
+      (sym (append-assoc (headLines k hs) (headLine k (headOf hs k)) more)
       ∙ e
-      ∙ ap joined (append-assoc (headLines k ks) (headLine k (headOf ks k)) less)) in
+      ∙ append-assoc (headLines k ks) (headLine k (headOf ks k)) less) in
       let at =
       head-apart k (headOf hs k) (headOf ks k) more less (omega (arith, few)) (a k (omega arith)) (b k (omega arith))
       (upTo .1) in

@@ -24,7 +24,7 @@ use Rattle.file.specs.Plan.{refusedPlan, taken, planOf}
 use Rattle.file.specs.Table.{tableAfter}
 use Rattle.file.specs.Figures.{boundOf, outcomeOf}
 use Rattle.file.specs.Benched.{emptyTable}
-use Rattle.file.specs.Report.{joined, linesOf, reportOf}
+use Rattle.file.specs.Report.{linesOf, reportOf}
 use Rattle.file.proofs.reading.Sections.{ordered, in-order, proposals-body, needed-body, losses-body, coins-body}
 use Rattle.file.proofs.reading.Plans.{accepted-file, refused-file}
 use Rattle.file.proofs.running.Placing.{after-nothing}
@@ -204,7 +204,7 @@ module _ (file : List ℕ) (m : ℕ) (enough : 41002 ≤ m) (longer : m < length
       let f = refused-outcome front emptyTable (R .number) (R .place) (plan-same 32 ∙ R .is) in
       let x = refused-table file emptyTable (R .number) (R .place) (R .is) in
       let y = refused-table front emptyTable (R .number) (R .place) (plan-same 32 ∙ R .is) in
-      ap₂ (λ (o : Outcome) (t : List Head). joined (linesOf (record { outcome = o; heads = t }))) (f ∙ sym e)
+      ap₂ (λ (o : Outcome) (t : List Head). linesOf (record { outcome = o; heads = t })) (f ∙ sym e)
       (y ∙ sym x)
 
 -- 41,002 bytes decide

@@ -1,6 +1,6 @@
 use borrow.Author.Needs.{needs}
 use Rattle.file.specs.Report.{headLine}
-use Rattle.run.specs.Writing.{withAll}
+use Rattle.run.proofs.Texts.{then-word}
 use Rattle.run.proofs.lines.head_line.Statement.{statement}
 use Rattle.run.proofs.lines.head_line.Tie as tie
 
@@ -53,22 +53,26 @@ with-word-requires-4 : tie.Need-with-word-requires-4
 with-word-requires-4 c κs = search needs
 
 returns : tie.Need-returns
-unfolding headLine withAll
-returns c = (
-  simp (
-    c .with-word4 .ensures .0,
-    c .before .before .with-decision .ensures .0,
-    c .before .before .before .with-word3 .ensures .0,
-    c .before .before .before .before .before .with-status .ensures .0,
-    c .before .before .before .before .before .before .with-word2 .ensures .0,
-    c .before .before .before .before .before .before .before .before .with-value .ensures .0,
-    c .before .before .before .before .before .before .before .before .before .with-word .ensures .0,
-    c .before .before .before .before .before .before .before .before .before .before .before .with-figure2 .ensures .0,
-    c .before .before .before .before .before .before .before .before .before .before
-        .before .before .before .before .with-figure .ensures .0,
-  ),
-  c .with-word4 .ensures .1,
-)
+unfolding headLine
+returns c =
+    let held = c .before .before .before .before .before .before .before .before .before .before .before .before .before
+    .before .before .before .pre in (
+      then-word _ _ _ _ _ held (then-word _ _ _ _ _ held (then-word _ _ _ _ _ held
+          (then-word _ _ _ _ _ held (then-word _ _ _ _ _ held (then-word _ _ _ _ _ held
+          (then-word _ _ _ _ _ held (then-word _ _ _ _ _ held
+          (c .before .before .before .before .before .before .before .before .before .before .before
+          .before .before .before .with-figure .ensures .0)
+          (c .before .before .before .before .before .before .before .before .before .before .before
+          .with-figure2 .ensures .0))
+          (c .before .before .before .before .before .before .before .before .before .with-word .ensures .0))
+          (c .before .before .before .before .before .before .before .before .with-value .ensures .0))
+          (c .before .before .before .before .before .before .with-word2 .ensures .0))
+          (c .before .before .before .before .before .with-status .ensures .0))
+          (c .before .before .before .with-word3 .ensures .0))
+          (c .before .before .with-decision .ensures .0))
+          (c .with-word4 .ensures .0),
+      c .with-word4 .ensures .1,
+    )
 
 pub head-line-spec : {M : Type 1} → statement M
 head-line-spec =

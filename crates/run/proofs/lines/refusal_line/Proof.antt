@@ -1,6 +1,6 @@
 use borrow.Author.Needs.{needs}
 use Rattle.file.specs.Report.{refusalLine}
-use Rattle.run.specs.Writing.{withAll}
+use Rattle.run.proofs.Texts.{then-word}
 use Rattle.run.proofs.lines.refusal_line.Statement.{statement}
 use Rattle.run.proofs.lines.refusal_line.Tie as tie
 
@@ -26,15 +26,15 @@ with-word-requires : tie.Need-with-word-requires
 with-word-requires c κs = search needs
 
 returns : tie.Need-returns
-unfolding refusalLine withAll
-returns c = (
-  simp (
-    c .with-word .ensures .0,
-    c .before .before .with-figure2 .ensures .0,
-    c .before .before .before .before .with-figure .ensures .0,
-  ),
-  c .with-word .ensures .1,
-)
+unfolding refusalLine
+returns c =
+    let held = c .before .before .before .before .before .before .before .pre in (
+      then-word _ _ _ _ _ held (then-word _ _ _ _ _ held
+          (c .before .before .before .before .with-figure .ensures .0)
+          (c .before .before .with-figure2 .ensures .0))
+          (c .with-word .ensures .0),
+      c .with-word .ensures .1,
+    )
 
 pub refusal-line-spec : {M : Type 1} → statement M
 refusal-line-spec =
