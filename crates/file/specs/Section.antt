@@ -29,21 +29,14 @@ counted file at breaks size =
     (cond breaks (Refused 13 at)
     (cond (ltb (length file) (at + 2 + size)) (Refused 12 (length file)) (Body (at + 2) size)))
 
--- the first of a body's pieces, each of so many bytes, that breaks its rule
-abbrev pub firstBroken : List ℕ → ℕ → (List ℕ → ℕ → Bool) → ℕ
-firstBroken body width breaks = first (length body / width) (λ i. breaks body (i * width))
-
--- "14, the byte, or the row's first byte", where the first piece that breaks its rule is one of the body's pieces
-unfoldable pub unlessBroken : Section → ℕ → ℕ → ℕ → Section
-unlessBroken (Refused number place) broken pieces width = Refused number place
-unlessBroken (Body start length) broken pieces width =
-    cond (ltb broken pieces) (Refused 14 (start + broken * width)) (Body start length)
-
--- ".. then its bytes."
+-- ".. then its bytes.", in pieces of so many: "14, the byte, or the row's first byte", the first that breaks its rule
 unfoldable pub checked : List ℕ → ℕ → (List ℕ → ℕ → Bool) → Section → Section
-checked file width breaks section =
-    let body = bodyOf file section in
-    unlessBroken section (firstBroken body width breaks) (length body / width) width
+checked file width breaks (Refused number place) = Refused number place
+checked file width breaks (Body start size) =
+    let body = bodyOf file (Body start size) in
+    let pieces = length body / width in
+    let broken = first pieces (λ i. breaks body (i * width)) in
+    cond (ltb broken pieces) (Refused 14 (start + broken * width)) (Body start size)
 
 -- a byte that is to be "0 or 1", and is not
 abbrev pub notBit : List ℕ → ℕ → Bool

@@ -12,21 +12,21 @@ use Rattle.rules.specs.Below.{first}
 use Rattle.rules.proofs.Counting.Below.{first-le}
 use Rattle.file.specs.declared.Section.{Section}
 use Rattle.file.specs.declared.Section.the-variants.{Body, Refused}
-use Rattle.file.specs.Section.{firstBroken, unlessBroken, checked, notBit, notNeed}
-use Rattle.run.specs.Sections.{fileMost, countBytes, bodyMost, Near, outside}
+use Rattle.file.specs.Section.{checked, notBit, notNeed}
+use Rattle.run.specs.Sections.{fileMost, countBytes, bodyMost, Near, outside, unlessBroken}
 
 -- a refused section is not looked at
 pub checked-refused : (file : List ℕ) (section : Section) (width number place : ℕ) (breaks : List ℕ → ℕ → Bool) → section ≡ Refused number place → section ≡ checked file width breaks section
-unfolding checked unlessBroken
+unfolding checked
 checked-refused file section width number place breaks e = e ∙ sym (ap (checked file width breaks) e)
 
 -- the body of any other is the part where it stands
 pub checked-body : (file body : List ℕ) (section answer : Section) (start size width broken : ℕ) (breaks : List ℕ → ℕ → Bool) → section ≡ Body start size → body ≡ take size (drop start file)
-    → broken ≡ firstBroken body width breaks → answer ≡ unlessBroken (Body start size) broken (length body / width) width → answer ≡ checked file width breaks section
-unfolding checked
+    → broken ≡ first (length body / width) (λ i. breaks body (i * width)) → answer ≡ unlessBroken start size broken (length body / width) width → answer ≡ checked file width breaks section
+unfolding checked unlessBroken
 checked-body file body section answer start size width broken breaks is at found e =
-    e ∙ ap (λ (k : ℕ). unlessBroken (Body start size) k (length body / width) width) found
-    ∙ ap (λ (part : List ℕ). unlessBroken (Body start size) (firstBroken part width breaks) (length part / width) width) at ∙ sym (ap (checked file width breaks) is)
+    e ∙ ap (λ (k : ℕ). unlessBroken start size k (length body / width) width) found
+    ∙ ap (λ (part : List ℕ). unlessBroken start size (first (length part / width) (λ i. breaks part (i * width))) (length part / width) width) at ∙ sym (ap (checked file width breaks) is)
 
 -- and is short where the section is near
 pub near-short : (file body : List ℕ) (section : Section) (start size : ℕ) → section ≡ Body start size → Near section → body ≡ take size (drop start file) → (start ≤ fileMost + countBytes) × (length body ≤ bodyMost)

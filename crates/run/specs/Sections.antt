@@ -1,7 +1,7 @@
 -- What the section readers hand to one another.
 use Prim.Native.Nat.{ℕ, _+_, _*_, _≤_}
 use mathlib.Core.List.{List}
-use mathlib.Core.Bool.{Bool, _||_}
+use mathlib.Core.Bool.{Bool, cond, _||_}
 use lib.ListN.{getD}
 use lib.Dec.{ltb}
 use Rattle.rules.specs.Sizes.{headsMost, setBytes}
@@ -47,3 +47,8 @@ Near (Refused number place) = Unit {0}
 -- a byte below low or above high
 abbrev pub outside : ℕ → ℕ → List ℕ → ℕ → Bool
 outside low high bytes at = ltb (getD bytes at 0) low || ltb high (getD bytes at 0)
+
+-- a section that is a body, unless the first piece that breaks its rule is one of its pieces, each of so many bytes
+unfoldable pub unlessBroken : ℕ → ℕ → ℕ → ℕ → ℕ → Section
+unlessBroken start size broken pieces width =
+    cond (ltb broken pieces) (Refused 14 (start + broken * width)) (Body start size)

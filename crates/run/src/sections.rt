@@ -8,9 +8,10 @@ ghost use lib.ListN.{length};
 ghost use Rattle.rules.specs.Below.{first};
 ghost use Rattle.rules.specs.Sizes.{headsMost, setBytes};
 ghost use Rattle.rules.specs.Record.{fourBytesAt};
-ghost use Rattle.file.specs.Section.{countAt, counted as countedOf, unlessBroken, checked, notRow};
+ghost use Rattle.file.specs.Section.{countAt, counted as countedOf, checked, notRow};
 ghost use Rattle.file.specs.Section.{proposalsOf, neededOf, lossesOf, coinsOf};
-ghost use Rattle.run.specs.Sections.{fileMost, countBytes, countMost, roundsMost, bodyMost, Near, outside};
+ghost use Rattle.run.specs.Sections.{fileMost, countBytes, countMost, roundsMost, bodyMost};
+ghost use Rattle.run.specs.Sections.{Near, outside, unlessBroken};
 use crate::places::byte_at;
 use crate::places::part;
 use codes::SET_BYTES;
@@ -146,7 +147,7 @@ fn checked_rows(file: &[u8], section: Section, n: usize) -> Section
 // The section, unless one of its body's pieces, each of so many bytes, breaks its rule.
 fn unless_broken(start: usize, length: usize, broken: usize, pieces: usize, width: usize) -> Section
     requires { ⌜ (start ≤ fileMost + countBytes) × (broken ≤ bodyMost) × (width ≤ setBytes) ⌝ }
-    ensures { λ r. ⌜ r ≡ unlessBroken (Section.Body start length) broken pieces width ⌝ }
+    ensures { λ r. ⌜ r ≡ unlessBroken start length broken pieces width ⌝ }
 {
     if broken < pieces {
         return Section::Refused {

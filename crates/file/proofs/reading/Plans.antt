@@ -16,7 +16,7 @@ use Rattle.rules.proofs.Counting.Truth.{never}
 use Rattle.file.specs.declared.Section.{Section}
 use Rattle.file.specs.declared.Section.the-variants.{Refused}
 use Rattle.file.specs.declared.Plan.{Plan}
-use Rattle.file.specs.Section.{countAt, counted, unlessBroken, checked, proposalsOf, neededOf, lossesOf, coinsOf}
+use Rattle.file.specs.Section.{countAt, counted, checked, proposalsOf, neededOf, lossesOf, coinsOf}
 use Rattle.file.specs.Rules.{StandsIn, KeepsEveryRule}
 use Rattle.file.specs.Refusal.{sectionRefusals, BitAt, Need, LossRow, fileRefusals}
 use Rattle.file.specs.Plan.{refusedPlan, taken, planOf}
@@ -127,7 +127,7 @@ module _ (file : List ℕ) (room : ℕ) where
       → (KeptSection file count Rule size pieces width Keeps (count + 2) size → Answers (next (count + 2) size) later)
       → Answers (taken (checked file width test (counted file count breaks size)) next)
       (sectionRefusals file count Rule pieces width Keeps ++ later)
-  unfolding checked unlessBroken
+  unfolding checked
   section {count} {breaks} {Rule} {size} {pieces} {width} {test} {Keeps} meant next later then =
       subst (λ (s : Section). Answers (taken s next) (sectionRefusals file count Rule pieces width Keeps ++ later))
       (sym (in-order file count breaks size width test))

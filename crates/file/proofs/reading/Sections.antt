@@ -10,6 +10,7 @@ use lib.ListN.{length, getD, drop, length-take, length-drop}
 use lib.Dec.{ltb, leb, eqb}
 use lib.Seq.{getD-take, getD-drop}
 use borrow.Author.Tests.{ltb-true, ltb-false, lt-ltb}
+use Rattle.rules.specs.Below.{first}
 use Rattle.rules.specs.Ballot.{notHeads}
 use Rattle.rules.specs.Heard.{within}
 use Rattle.rules.specs.Record.{fourBytesAt}
@@ -20,7 +21,7 @@ use Rattle.rules.proofs.Counting.Below.{not-some, first-holds, first-before, fi
 use Rattle.rules.proofs.Counting.Sets.{means-within}
 use Rattle.file.specs.declared.Section.{Section}
 use Rattle.file.specs.declared.Section.the-variants.{Body, Refused}
-use Rattle.file.specs.Section.{countAt, bodyOf, counted, firstBroken, unlessBroken, checked, notBit, notNeed}
+use Rattle.file.specs.Section.{countAt, bodyOf, counted, checked, notBit, notNeed}
 use Rattle.file.specs.Section.{notRow, proposalsOf, neededOf, lossesOf, coinsOf}
 use Rattle.file.specs.Refusal.{FirstThatBreaks, BitAt, Need, LossRow}
 
@@ -98,7 +99,7 @@ pub in-order : (file : List ℕ) (count : ℕ) (breaks : Bool) (size width : ℕ
     → checked file width test (counted file count breaks size)
     ≡ ordered file count (ltb (length file) (count + 2)) breaks (ltb (length file) (count + 2 + size))
     (checked file width test (Body (count + 2) size))
-unfolding counted checked unlessBroken
+unfolding counted checked
 in-order file count breaks size width test =
     go (ltb (length file) (count + 2)) breaks (ltb (length file) (count + 2 + size))
   where
@@ -135,7 +136,7 @@ module _ {file : List ℕ} {count : ℕ} {breaks : Bool} {Rule : Type 0} {size p
   body = bodyOf file (Body (count + 2) size)
 
   abbrev broken : ℕ
-  broken = firstBroken body width test
+  broken = first (length body / width) (λ i. test body (i * width))
 
   abbrev Inside : Type 0
   Inside = ltb (length file) (count + 2 + size) ≡ false
@@ -206,7 +207,7 @@ module _ {file : List ℕ} {count : ℕ} {breaks : Bool} {Rule : Type 0} {size p
 
   pub section-body : (start long : ℕ) → checked file width test (counted file count breaks size) ≡ Body start long
       → KeptSection file count Rule size pieces width Keeps start long
-  unfolding checked unlessBroken
+  unfolding checked
   section-body start long e =
       go (ltb (length file) (count + 2)) breaks (ltb (length file) (count + 2 + size))
       (ltb broken (length body / width)) refl refl refl (sym (in-order file count breaks size width test) ∙ e)

@@ -4,8 +4,7 @@ use native.Mathlib.Omega.{arith}
 use lib.Dec.{lit≤}
 use lib.ListN.{length}
 use borrow.Author.Needs.{needs}
-use Rattle.file.specs.declared.Section.the-variants.{Body}
-use Rattle.file.specs.Section.{unlessBroken}
+use Rattle.run.specs.Sections.{unlessBroken}
 use Rattle.run.proofs.Checking.{checked-refused, checked-body, near-short, by-one, found-small}
 use Rattle.run.proofs.sections.checked_bytes.Statement.{statement}
 use Rattle.run.proofs.sections.checked_bytes.Tie as tie
@@ -31,7 +30,7 @@ unless-broken-requires c κs = let near = near-short _ _ _ _ _ (c .before .befor
 returns-2 : tie.Need-returns-2
 returns-2 c = let body = c .before .before .part .result .now in
     let all : length body ≡ length body / 1 = omega arith in
-    checked-body _ body _ _ _ _ 1 _ _ (c .before .before .before .before .section .given .1) (c .before .before .part .ensures) (c .before .first-outside .ensures ∙ by-one _ _) (c .unless-broken .ensures ∙ ap (λ (k : ℕ). unlessBroken (Body (c .before .before .before .before .section .given .0 .0) (c .before .before .before .before .section .given .0 .1 .0)) (c .before .first-outside .result) k 1) all)
+    checked-body _ body _ _ _ _ 1 _ _ (c .before .before .before .before .section .given .1) (c .before .before .part .ensures) (c .before .first-outside .ensures ∙ by-one _ _) (c .unless-broken .ensures ∙ ap (λ (k : ℕ). unlessBroken (c .before .before .before .before .section .given .0 .0) (c .before .before .before .before .section .given .0 .1 .0) (c .before .first-outside .result) k 1) all)
 
 pub checked-bytes-spec : {M : Type 1} → statement M
 checked-bytes-spec =

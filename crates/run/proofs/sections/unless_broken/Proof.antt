@@ -1,7 +1,7 @@
 use native.Mathlib.Nat.{mul-le-mul}
 use native.Mathlib.Omega.{arith}
 use borrow.Author.Tests.{lt-ltb, le-ltb}
-use Rattle.file.specs.Section.{unlessBroken}
+use Rattle.run.specs.Sections.{unlessBroken}
 use Rattle.run.proofs.sections.unless_broken.Statement.{statement}
 use Rattle.run.proofs.sections.unless_broken.Tie as tie
 
