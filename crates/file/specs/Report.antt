@@ -29,11 +29,8 @@ word none = []
 word (letter then letters) = code letter ∷ word letters
 
 -- a number's decimal digits: the fewest that hold it, and no fewer than one
-abbrev pub places : ℕ → ℕ
-places n = suc (first 19 (λ k. ltb n (10 ^ suc k)))
-
 unfoldable pub decimal : ℕ → List ℕ
-decimal n = digits 10 (places n) n
+decimal n = digits 10 (suc (first 19 (λ k. ltb n (10 ^ suc k)))) n
 
 -- "value prints 0, 1 or blank, status decided or undecided, decision 0, 1 or none"
 abbrev pub valueWord : Value → List ℕ

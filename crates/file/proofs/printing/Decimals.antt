@@ -13,8 +13,12 @@ use borrow.Author.Tests.{lt-ltb, le-ltb, ltb-true}
 use Rattle.io.specs.Digits.{glyph, digits, Fewest}
 use Rattle.rules.specs.Below.{first}
 use Rattle.rules.proofs.Counting.Below.{NoneBefore, first-le, first-holds, search-finds, search-ends}
-use Rattle.file.specs.Report.{places, decimal}
+use Rattle.file.specs.Report.{decimal}
 use Rattle.file.proofs.printing.WordsApart.{Lacks, lacks-append}
+
+-- how many digits `decimal` writes
+abbrev pub places : ℕ → ℕ
+places n = suc (first 19 (λ k. ltb n (10 ^ suc k)))
 
 -- twenty digits hold every number below 10 ^ 20
 few-digits : (n k : ℕ) → Fewest 10 1 n k → n < 10 ^ 20 → k ≤ 20
