@@ -68,10 +68,7 @@ lines9to13 i =
     let all = i .heardSoFar in
     cond (someIn all (λ b. ltb (i .phase) (b .phase))) (lines10to12 i (foremost all all)) i
 
--- ⟨*, φ, *, *⟩ ∈ V with φ = φ_i, and ⟨*, φ, v, *⟩ ∈ V with φ = φ_i
-abbrev pub atPhase : Process → ℕ
-atPhase i = senders i (λ b. eqb (b .phase) (i .phase))
-
+-- ⟨*, φ, v, *⟩ ∈ V with φ = φ_i
 abbrev pub atPhaseWith : Process → Value → ℕ
 atPhaseWith i v = senders i (λ b. eqb (b .phase) (i .phase) && sameValue (b .value) v)
 
@@ -92,10 +89,10 @@ lines25to29 i coin = bitWith (λ v. leb 1 (atPhaseWith i v)) (valueOf coin)
 abbrev pub line31 : Process → Value → Status → Process
 line31 i v status = processWith (i .n) (i .own) (i .phase + 1) v status (i .decision) (i .heardSoFar)
 
--- lines 14 to 32
+-- lines 14 to 32: if over half sent ⟨*, φ, *, *⟩ ∈ V with φ = φ_i
 unfoldable pub lines14to32 : Process → ℕ → Process
 lines14to32 i coin =
-    cond (overHalf (i .n) (atPhase i))
+    cond (overHalf (i .n) (senders i (λ b. eqb (b .phase) (i .phase))))
     (cond (eqb (i .phase % 2) 1) (line31 i (lines16to20 i) (i .status)) (line31 i (lines25to29 i coin) (lines22to24 i)))
     i
 

@@ -37,9 +37,6 @@ statusOf code = cond (eqb code 0) Undecided Decided
 abbrev pub sameValue : Value → Value → Bool
 sameValue v w = eqb (valueCode v) (valueCode w)
 
-abbrev pub sameStatus : Status → Status → Bool
-sameStatus s t = eqb (statusCode s) (statusCode t)
-
 -- "Five bytes: sender; value 0, 1 or 2 (blank); status 0 or 1 (decided); phase, high byte first."
 abbrev pub bytesOf : Ballot → List ℕ
 bytesOf b = b .sender ∷ valueCode (b .value) ∷ statusCode (b .status) ∷ b .phase / 256 ∷ b .phase % 256 ∷ []

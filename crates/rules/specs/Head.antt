@@ -62,12 +62,9 @@ isWritten h = ltb (decisionCode (h .decision)) 2
 abbrev pub decisionIsValue : Head → Bool
 decisionIsValue h = isWritten h && eqb (decisionCode (h .decision)) (valueCode (h .value))
 
--- "none is heard" with v; v is "heard at all"
-abbrev pub noneHeard : Head → Value → Bool
-noneHeard h v = eqb (heard h v) 0
-
+-- v is "heard at all": some head is in its set
 abbrev pub anyHeard : Head → Value → Bool
-anyHeard h v = not (noneHeard h v)
+anyHeard h v = not (eqb (heard h v) 0)
 
 -- head s, if heard, stands under w: where it is heard with v, v is w
 abbrev pub heardAs : Head → ℕ → Value → Value → Bool
@@ -89,7 +86,7 @@ setsFit h =
 -- "at an odd phase none is heard blank; at an even phase 0 and 1 are not both heard"
 unfoldable pub phaseFits : Head → Bool
 phaseFits h =
-    (not (eqb (h .phase % 2) 1) || noneHeard h Blank)
+    (not (eqb (h .phase % 2) 1) || eqb (h .blanks) 0)
     && (not (eqb (h .phase % 2) 0) || not (anyHeard h Zero && anyHeard h One))
 
 -- "A head is sound when: n is 2 to 32; own number below n; its phase, value and status obey the same rules; .."; and at
@@ -119,10 +116,8 @@ zeroHead = headWith 0 0 0 Zero Undecided ForZero nobody
 -- "A refused start gives a head with every field zero"
 unfoldable pub startOf : ℕ → ℕ → ℕ → Started
 startOf n own proposal =
-    record {
-      number = startNumber n own proposal;
-      head = cond (eqb (startNumber n own proposal) 0) (fresh n own proposal) zeroHead;
-    }
+    let number = startNumber n own proposal in
+    record { number = number; head = cond (eqb number 0) (fresh n own proposal) zeroHead }
 
 -- "A head sends its present phase, value and status"
 abbrev pub ballotOf : Head → Ballot

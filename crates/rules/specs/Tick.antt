@@ -15,7 +15,7 @@ use Rattle.rules.specs.declared.Head.{Head}
 use Rattle.rules.specs.declared.Ticked.{Ticked}
 use Rattle.rules.specs.Number.{_when_, firstThatApplies}
 use Rattle.rules.specs.Below.{first, some}
-use Rattle.rules.specs.Ballot.{valueOf, sameValue, sameStatus, ballotAt, breaksRule}
+use Rattle.rules.specs.Ballot.{valueOf, statusCode, sameValue, ballotAt, breaksRule}
 use Rattle.rules.specs.Heard.{member, setOf, size, overHalf, heard, says}
 use Rattle.rules.specs.Choice.{ahead, bitWith}
 use Rattle.rules.specs.Head.{headWith, nobody, decisionFor, isDecided, isWritten, decisionIsValue, anyHeard, standsUnder, sound, ballotOf}
@@ -95,7 +95,7 @@ notList l = not (eqb (length l % ballotBytes) 0) || ltb listBytesMost (length l)
 
 -- the same value and status
 unfoldable pub sameState : Ballot → Ballot → Bool
-sameState a b = sameValue (a .value) (b .value) && sameStatus (a .status) (b .status)
+sameState a b = sameValue (a .value) (b .value) && eqb (statusCode (a .status)) (statusCode (b .status))
 
 -- 7: "a ballot under the head's own number has a higher phase, or the same phase and another value or status"
 unfoldable pub ownOtherwise : Head → Ballot → Bool
@@ -145,7 +145,5 @@ tickNumber h l coin =
 -- Steps 1 to 4; "A refused tick gives back the head as it came, sound or not."
 unfoldable pub tickOf : Head → List ℕ → ℕ → Ticked
 tickOf h l coin =
-    record {
-      number = tickNumber h l coin;
-      head = cond (eqb (tickNumber h l coin) 0) (settled (stepped (gathered h l) coin)) h;
-    }
+    let number = tickNumber h l coin in
+    record { number = number; head = cond (eqb number 0) (settled (stepped (gathered h l) coin)) h }

@@ -15,7 +15,7 @@ use Rattle.rules.specs.declared.Decision.the-variants.{Zero as ForZero, 
 use Rattle.rules.specs.declared.Class.{Class}
 use Rattle.rules.specs.declared.Class.the-variants.{Odd, Even}
 use Rattle.rules.specs.declared.Head.{Head}
-use Rattle.rules.specs.Ballot.{valueCode, valueOf, statusCode, statusOf, sameValue, sameStatus, classOf, allowed, obeys, notHeads}
+use Rattle.rules.specs.Ballot.{valueCode, valueOf, statusCode, statusOf, sameValue, classOf, allowed, obeys, notHeads}
 use Rattle.rules.specs.Heard.{member, heard}
 use Rattle.rules.specs.Head.{decisionCode, decisionFor, isDecided, isWritten, heardAs, standsUnder, decisionFits, setsFit, phaseFits, sound}
 use Rattle.rules.specs.Record.{decisionOf}
@@ -45,7 +45,7 @@ decision-back Unwritten = refl
 pub means-value : (v w : Value) → Means (sameValue v w) (v ≡ w)
 means-value = means-code valueCode valueOf value-back
 
-pub means-status : (s t : Status) → Means (sameStatus s t) (s ≡ t)
+pub means-status : (s t : Status) → Means (eqb (statusCode s) (statusCode t)) (s ≡ t)
 means-status = means-code statusCode statusOf status-back
 
 pub means-decided : (h : Head) → Means (isDecided h) (h .status ≡ Decided)

@@ -19,7 +19,7 @@ use Rattle.rules.specs.Head.{anyHeard}
 use Rattle.rules.specs.Tick.{quorum, majority, stepValue, stepStatus, stepped}
 use Rattle.rules.specs.Choice.{bitWith}
 use Rattle.rules.specs.Given.{Hears, Says}
-use Rattle.rules.specs.Algorithm.{Process, processWith, someIn, atPhase, atPhaseWith, lines14to32, lines16to20, lines22to24, lines25to29}
+use Rattle.rules.specs.Algorithm.{Process, processWith, someIn, senders, atPhaseWith, lines14to32, lines16to20, lines22to24, lines25to29}
 use Rattle.rules.proofs.Counting.Truth.{Means, means-self, means-as, means-and, means-or, means-eq, means-same}
 use Rattle.rules.proofs.Counting.Below.{count-same}
 use Rattle.rules.proofs.Counting.Counting.{count-within, count-either, means-count}
@@ -52,7 +52,7 @@ module _ (h : Head) (all : List Ballot) (sets : BySender h all) where
           (means-and (means-eq (b .sender) s) (means-and (means-eq (b .phase) (h .phase)) (means-value (b .value) v))))
 
   -- the three sizes together are its count of the senders of the phase
-  sizes-are : size (h .zeros) + size (h .ones) + size (h .blanks) ≡ atPhase (shown h all)
+  sizes-are : size (h .zeros) + size (h .ones) + size (h .blanks) ≡ senders (shown h all) (λ b. eqb (b .phase) (h .phase))
   unfolding size
   sizes-are =
       ap (λ (k : ℕ). k + count 32 (hears Blank)) (sym (count-either 32 (hears Zero) (hears One) (apart Zero One (lit< tt))))
@@ -98,7 +98,7 @@ module _ (h : Head) (all : List Ballot) (sets : BySender h all) where
           (means-among (λ b. means-and (means-eq (b .sender) s) (means-eq (b .phase) (h .phase))))
 
   -- so line 14 tests what step 3 tests
-  quorum-is : quorum h ≡ overHalf (h .n) (atPhase (shown h all))
+  quorum-is : quorum h ≡ overHalf (h .n) (senders (shown h all) (λ b. eqb (b .phase) (h .phase)))
   unfolding quorum
   quorum-is = ap (overHalf (h .n)) sizes-are
 
