@@ -19,7 +19,7 @@ use Rattle.rules.specs.declared.Ballot.{Ballot}
 use Rattle.rules.specs.declared.Head.{Head}
 use Rattle.rules.specs.declared.Ticked.{Ticked}
 use Rattle.rules.specs.Below.{count}
-use Rattle.rules.specs.Ballot.{bytesOf, encode, fiveAt, ballotAt, readNumber, readBallot}
+use Rattle.rules.specs.Ballot.{ballot, bytesOf, encode, fiveAt, ballotAt, readNumber, readBallot}
 use Rattle.rules.specs.Head.{decisionCode, zeroHead, startNumber, startOf, ballotOf, sendOf}
 use Rattle.rules.specs.Tick.{ballots, gathered, tickNumber, tickOf}
 use Rattle.rules.specs.Record.{recordOf, headAt, startNumberFromC, recordAfterStart, tickNumberFromC, recordAfterTick, bufferAfterSend}
@@ -28,7 +28,7 @@ use Rattle.rules.specs.Algorithm.{Process, line8, lines9to13, atPhaseWit
 use Rattle.rules.specs.History.{Handed, headAfter, ballotsIn, processAfter, Shows}
 use Rattle.rules.specs.Run.{Vote, Event, headIn, recordIn, Sent, Run, NotRefusedBeforeTheLastPhase, EveryHeadDecides}
 use Rattle.rules.specs.Round.{Channel, round, LosesNothing}
-use Rattle.rules.specs.Sixteen.{ballot, start, head, sixteen}
+use Rattle.rules.specs.Sixteen.{start, head, sixteen}
 use Rattle.rules.proofs.Counting.Truth.{never}
 use Rattle.rules.proofs.Computed.Computing.{computing}
 use Rattle.rules.proofs.Meaning.Given.{passed-over, applies, given-applies}

@@ -13,7 +13,7 @@ use Rattle.rules.specs.declared.Decision.{Decision}
 use Rattle.rules.specs.declared.Decision.the-variants.{Unwritten}
 use Rattle.rules.specs.declared.Ballot.{Ballot}
 use Rattle.rules.specs.Below.{count}
-use Rattle.rules.specs.Ballot.{valueOf, statusCode, sameValue, zeroBallot}
+use Rattle.rules.specs.Ballot.{valueOf, statusCode, sameValue, ballot, zeroBallot}
 use Rattle.rules.specs.Heard.{overHalf}
 use Rattle.rules.specs.Head.{decisionFor}
 use Rattle.rules.specs.Choice.{ahead, bitWith}
@@ -47,7 +47,7 @@ lines1to4 n own proposal = processWith n own 1 (valueOf proposal) Undecided Unwr
 
 -- line 6: broadcast ⟨i, φ, v, status⟩
 abbrev pub line6 : Process → Ballot
-line6 i = record { sender = i .own; value = i .value; status = i .status; phase = i .phase }
+line6 i = ballot (i .own) (i .phase) (i .value) (i .status)
 
 -- line 8: V ← V ∪ M
 abbrev pub line8 : Process → List Ballot → Process

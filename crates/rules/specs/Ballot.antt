@@ -37,6 +37,10 @@ statusOf code = cond (eqb code 0) Undecided Decided
 abbrev pub sameValue : Value → Value → Bool
 sameValue v w = eqb (valueCode v) (valueCode w)
 
+-- "Ballots as (sender, phase, value, u or d)"
+abbrev pub ballot : ℕ → ℕ → Value → Status → Ballot
+ballot sender phase value status = record { sender = sender; value = value; status = status; phase = phase }
+
 -- "Five bytes: sender; value 0, 1 or 2 (blank); status 0 or 1 (decided); phase, high byte first."
 abbrev pub bytesOf : Ballot → List ℕ
 bytesOf b = b .sender ∷ valueCode (b .value) ∷ statusCode (b .status) ∷ b .phase / 256 ∷ b .phase % 256 ∷ []
@@ -60,12 +64,8 @@ phaseAt l i = getD l (i * ballotBytes + 3) 0 * 256 + getD l (i * ballotBytes + 4
 
 unfoldable pub ballotAt : List ℕ → ℕ → Ballot
 ballotAt l i =
-    record {
-      sender = getD l (i * ballotBytes) 0;
-      value = valueOf (getD l (i * ballotBytes + 1) 0);
-      status = statusOf (getD l (i * ballotBytes + 2) 0);
-      phase = phaseAt l i;
-    }
+    let at = i * ballotBytes in
+    ballot (getD l at 0) (phaseAt l i) (valueOf (getD l (at + 1) 0)) (statusOf (getD l (at + 2) 0))
 
 -- "phase 0 never stands; the values and statuses allowed differ for phase 1, phase 2, odd phases from 3 and even
 -- phases from 4."
@@ -102,7 +102,7 @@ readNumber n bytes =
     ((1 when notHeads n) ∷ (5 when not (eqb (length bytes) ballotBytes)) ∷ (6 when breaksRule n bytes 0) ∷ [])
 
 abbrev pub zeroBallot : Ballot
-zeroBallot = record { sender = 0; value = Zero; status = Undecided; phase = 0 }
+zeroBallot = ballot 0 0 Zero Undecided
 
 -- "a refusal (1, 5 or 6) comes with a ballot of zero fields"
 unfoldable pub readBallot : ℕ → List ℕ → Ballot

@@ -201,12 +201,9 @@ pub record SoundRecord (r : List ℕ) : Type 0 where
   pub zero : getD r 7 0 ≡ 0
   pub head : Sound (headAt r)
 
+-- "at a start from C, record not 20 bytes"
 abbrev pub startTableFromC : List ℕ → ℕ → ℕ → ℕ → List Row
-startTableFromC r n own proposal =
-    startTable n own proposal
-    -- "at a start from C, record not 20 bytes"
-    ++ (3 exactly-when (length r ≡ recordBytes → ⊥))
-    ∷ []
+startTableFromC r n own proposal = startTable n own proposal ++ (3 exactly-when (length r ≡ recordBytes → ⊥)) ∷ []
 
 abbrev pub tickTableFromC : List ℕ → List ℕ → ℕ → List Row
 tickTableFromC r l coin = (3 exactly-when (SoundRecord r → ⊥)) ∷ laterTable (headAt r) l coin

@@ -16,7 +16,7 @@ use Rattle.rules.specs.declared.Head.{Head}
 use Rattle.rules.specs.declared.Started.{Started}
 use Rattle.rules.specs.declared.Written.{Written}
 use Rattle.rules.specs.Number.{Line, _when_, firstThatApplies}
-use Rattle.rules.specs.Ballot.{valueCode, valueOf, statusCode, sameValue, bytesOf, obeys, notHeads}
+use Rattle.rules.specs.Ballot.{valueCode, valueOf, statusCode, sameValue, ballot, bytesOf, obeys, notHeads}
 use Rattle.rules.specs.Heard.{member, apart, within, heard}
 use Rattle.rules.specs.Sizes.{ballotBytes}
 
@@ -121,7 +121,7 @@ startOf n own proposal =
 
 -- "A head sends its present phase, value and status"
 abbrev pub ballotOf : Head → Ballot
-ballotOf h = record { sender = h .own; value = h .value; status = h .status; phase = h .phase }
+ballotOf h = ballot (h .own) (h .phase) (h .value) (h .status)
 
 -- "writing the ballot of a sound head gives those five bytes, of an unsound one refusal 3 and five zeros"
 unfoldable pub sendOf : Head → Written

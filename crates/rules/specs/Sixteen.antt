@@ -11,13 +11,9 @@ use Rattle.rules.specs.declared.Decision.the-variants.{One as ForOne, Un
 use Rattle.rules.specs.declared.Ballot.{Ballot}
 use Rattle.rules.specs.declared.Head.{Head}
 use Rattle.rules.specs.declared.Ticked.{Ticked}
-use Rattle.rules.specs.Ballot.{sameValue, encode}
+use Rattle.rules.specs.Ballot.{sameValue, ballot, encode}
 use Rattle.rules.specs.Head.{headWith, startOf}
 use Rattle.rules.specs.Tick.{tickOf}
-
--- "Ballots as (sender, phase, value, u or d)"
-abbrev pub ballot : ℕ → ℕ → Value → Status → Ballot
-ballot sender phase value status = record { sender = sender; value = value; status = status; phase = phase }
 
 -- "own number 0, proposal 1"
 abbrev pub start : ℕ → Head

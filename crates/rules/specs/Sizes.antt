@@ -23,7 +23,3 @@ listBytesMost = ballotsMost * ballotBytes
 -- "a record of 20 bytes"
 abbrev pub recordBytes : ℕ
 recordBytes = 20
-
--- a set of heads in a record, or a row of lost ballots: "4 bytes"
-abbrev pub setBytes : ℕ
-setBytes = 4

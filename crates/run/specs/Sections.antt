@@ -4,7 +4,7 @@ use mathlib.Core.List.{List}
 use mathlib.Core.Bool.{Bool, cond, _||_}
 use lib.ListN.{getD}
 use lib.Dec.{ltb}
-use Rattle.rules.specs.Sizes.{headsMost, setBytes}
+use Rattle.rules.specs.Sizes.{headsMost}
 use Rattle.file.specs.declared.Section.{Section}
 use Rattle.file.specs.declared.Section.the-variants.{Body, Refused}
 
@@ -15,6 +15,10 @@ fileMost = 41001
 -- "a two-byte count"
 abbrev pub countBytes : ℕ
 countBytes = 2
+
+-- a row of lost ballots: "4 bytes"
+abbrev pub setBytes : ℕ
+setBytes = 4
 
 -- "Count of rounds, 0 to 256"
 abbrev pub roundsMost : ℕ

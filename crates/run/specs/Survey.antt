@@ -6,13 +6,14 @@ use mathlib.Core.Bool.{cond}
 use lib.ListN.{getD, set, replicate}
 use lib.Seq.{sets}
 use Rattle.rules.specs.declared.Head.{Head}
-use Rattle.rules.specs.Sizes.{headsMost, ballotBytes, setBytes}
+use Rattle.rules.specs.Sizes.{headsMost, ballotBytes}
 use Rattle.rules.specs.Ballot.{statusCode, bytesOf, fiveAt}
 use Rattle.rules.specs.Heard.{member}
 use Rattle.rules.specs.Head.{ballotOf}
 use Rattle.rules.specs.Tick.{tickOf}
 use Rattle.rules.specs.Record.{fourBytesAt}
 use Rattle.file.specs.Table.{headOf}
+use Rattle.run.specs.Sections.{setBytes}
 use Rattle.run.specs.declared.heads.Survey.{Survey}
 
 abbrev pub noSurvey : Survey

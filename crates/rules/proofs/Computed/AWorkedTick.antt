@@ -13,8 +13,7 @@ use Rattle.rules.specs.declared.Ballot.{Ballot}
 use Rattle.rules.specs.Algorithm.{Process, processWith}
 use Rattle.rules.specs.History.{Handed, headAfter, acceptedOf, processAfter, Shows}
 use Rattle.rules.proofs.Computed.Computing.{computing, shows}
-use Rattle.rules.specs.Ballot.{encode}
-use Rattle.rules.specs.Sixteen.{ballot}
+use Rattle.rules.specs.Ballot.{ballot, encode}
 use Rattle.rules.proofs.Paper.HeardSoFar.{heardIn}
 
 -- "coin 0 unless said"

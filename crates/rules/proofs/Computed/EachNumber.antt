@@ -8,11 +8,11 @@ use Rattle.rules.specs.declared.Value.the-variants.{Zero, One, Blank}
 use Rattle.rules.specs.declared.Status.the-variants.{Undecided as u, Decided as d}
 use Rattle.rules.specs.declared.Decision.the-variants.{Zero as ForZero, One as ForOne, Unwritten as none}
 use Rattle.rules.specs.declared.Head.{Head}
-use Rattle.rules.specs.Ballot.{encode, readNumber}
+use Rattle.rules.specs.Ballot.{ballot, encode, readNumber}
 use Rattle.rules.specs.Head.{headWith, nobody, zeroHead, startNumber, sendOf}
 use Rattle.rules.specs.Tick.{tickNumber, tickOf, notList}
 use Rattle.rules.specs.Record.{startNumberFromC, recordAfterStart, tickNumberFromC, recordAfterTick, sendNumberFromC, bufferAfterSend}
-use Rattle.rules.specs.Sixteen.{ballot, start, head}
+use Rattle.rules.specs.Sixteen.{start, head}
 use Rattle.rules.proofs.Computed.Computing.{computing}
 use mathlib.Core.Bool.{true, false}
 
