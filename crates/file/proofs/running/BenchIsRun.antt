@@ -20,8 +20,8 @@ use Rattle.rules.proofs.Rounds.Rounds.{round-is-run, untouched, ticked-once}
 use Rattle.rules.proofs.Undivided.Phases.{no-early-refusal}
 use Rattle.file.specs.declared.Plan.{Plan}
 use Rattle.file.specs.Table.{headOf, startIn, startsIn, rowsIn, coinsIn, tickedIn, roundIn, roundsIn}
-use Rattle.file.specs.Vote.{voteIn, channelIn, eventsIn}
 use Rattle.file.proofs.reading.Plans.{RuleByRule}
+use Rattle.file.proofs.running.Voting.{voteIn, channelIn, eventsIn}
 use Rattle.file.proofs.running.Placing.{placed-length, placed-at, rounds-length}
 
 module _ (file : List ℕ) (plan : Plan) (table : List Head) (accepted : RuleByRule file (length table) plan) where

@@ -15,8 +15,8 @@ use Rattle.rules.specs.Round.{received, LosesNothing}
 use Rattle.rules.proofs.Rounds.Rounds.{ticked-once}
 use Rattle.rules.proofs.Undivided.Decisions.{tick-keeps-decision}
 use Rattle.file.specs.declared.Plan.{Plan}
-use Rattle.file.specs.Vote.{voteIn, channelIn, eventsIn}
 use Rattle.file.proofs.reading.Plans.{RuleByRule}
+use Rattle.file.proofs.running.Voting.{voteIn, channelIn, eventsIn}
 use Rattle.file.proofs.running.BenchIsRun.{coin-bit}
 use Rattle.rules.proofs.Demands.{two-lossless-rounds-decide}
 

@@ -14,9 +14,10 @@ use Rattle.rules.proofs.Counting.Counting.{count-within}
 use Rattle.file.specs.declared.Plan.{Plan}
 use Rattle.file.specs.Table.{rowsIn}
 use Rattle.file.specs.Figures.{lostIn, boundOf, goodIn}
-use Rattle.file.specs.Vote.{channelIn, lostTo}
+use Rattle.file.specs.Vote.{lostTo}
 use Rattle.file.proofs.reading.Sections.{four-bytes-at}
 use Rattle.file.proofs.reading.Plans.{RuleByRule}
+use Rattle.file.proofs.running.Voting.{channelIn}
 
 module _ (file : List ℕ) (plan : Plan) (room : ℕ) (keeps : RuleByRule file room plan) where
   -- a row of a round is a row of the file
