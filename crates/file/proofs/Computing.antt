@@ -1,6 +1,6 @@
 -- What the computed examples share: the run file, the bench and the report opened.
 use Rattle.rules.proofs.Computed.Computing.{computing}
-use Rattle.file.specs.Section.{counted, checked, proposalsOf, neededOf, lossesOf, coinsOf}
+use Rattle.file.specs.Section.{sectionAt, proposalsOf, neededOf, lossesOf, coinsOf}
 use Rattle.file.specs.Plan.{planOf}
 use Rattle.file.specs.Table.{placed, roundIn, roundsIn, tableAfter}
 use Rattle.file.specs.Figures.{lostIn, boundOf, outcomeOf}
@@ -8,6 +8,6 @@ use Rattle.file.specs.Report.{decimal, firstLine, headLine, headLines, l
 
 -- under `unfolding reporting` a file's plan, its run and its report compute
 unfoldable pub reporting : Unit {0}
-unfolding computing counted checked proposalsOf neededOf lossesOf coinsOf planOf placed roundIn
+unfolding computing sectionAt proposalsOf neededOf lossesOf coinsOf planOf placed roundIn
     roundsIn tableAfter lostIn boundOf outcomeOf decimal firstLine headLine headLines lastLine refusalLine linesOf
 reporting = tt

@@ -21,22 +21,18 @@ abbrev pub bodyOf : List ℕ → Section → List ℕ
 bodyOf file (Body start length) = take length (drop start file)
 bodyOf file (Refused number place) = []
 
--- "In each section the count is read, then its rule tested, then the body's length": the section whose count stands at
--- a place. "Place of a refusal: 12, the file's length; 13, the count".
-unfoldable pub counted : List ℕ → ℕ → Bool → ℕ → Section
-counted file at breaks size =
-    cond (ltb (length file) (at + 2)) (Refused 12 (length file))
-    (cond breaks (Refused 13 at)
-    (cond (ltb (length file) (at + 2 + size)) (Refused 12 (length file)) (Body (at + 2) size)))
-
--- ".. then its bytes.", in pieces of so many: "14, the byte, or the row's first byte", the first that breaks its rule
-unfoldable pub checked : List ℕ → ℕ → (List ℕ → ℕ → Bool) → Section → Section
-checked file width breaks (Refused number place) = Refused number place
-checked file width breaks (Body start size) =
-    let body = bodyOf file (Body start size) in
+-- "In each section the count is read, then its rule tested, then the body's length, then its bytes.": the section whose
+-- count stands at a place, with a body of so many bytes, in pieces of so many. "Place of a refusal: 12, the file's
+-- length; 13, the count; 14, the byte, or the row's first byte".
+unfoldable pub sectionAt : List ℕ → ℕ → Bool → ℕ → ℕ → (List ℕ → ℕ → Bool) → Section
+sectionAt file at countBreaks size width breaks =
+    let body = bodyOf file (Body (at + 2) size) in
     let pieces = length body / width in
     let broken = first pieces (λ i. breaks body (i * width)) in
-    cond (ltb broken pieces) (Refused 14 (start + broken * width)) (Body start size)
+    cond (ltb (length file) (at + 2)) (Refused 12 (length file))
+    (cond countBreaks (Refused 13 at)
+    (cond (ltb (length file) (at + 2 + size)) (Refused 12 (length file))
+    (cond (ltb broken pieces) (Refused 14 (at + 2 + broken * width)) (Body (at + 2) size))))
 
 -- a byte that is to be "0 or 1", and is not
 abbrev pub notBit : List ℕ → ℕ → Bool
@@ -44,7 +40,7 @@ notBit body at = ltb 1 (getD body at 0)
 
 -- "Count n (2 to 32), then n proposals (0 or 1)."
 unfoldable pub proposalsOf : List ℕ → Section
-proposalsOf file = checked file 1 notBit (counted file 0 (notHeads (countAt file 0)) (countAt file 0))
+proposalsOf file = sectionAt file 0 (notHeads (countAt file 0)) (countAt file 0) 1 notBit
 
 -- "k, the heads needed: more than n/2, at most n"
 abbrev pub notNeed : ℕ → List ℕ → ℕ → Bool
@@ -52,7 +48,7 @@ notNeed n body at = not (overHalf n (getD body at 0) && leb (getD body at 0) n)
 
 -- "Count 1, then k"
 unfoldable pub neededOf : List ℕ → ℕ → ℕ → Section
-neededOf file at n = checked file 1 (notNeed n) (counted file at (not (eqb (countAt file at) 1)) 1)
+neededOf file at n = sectionAt file at (not (eqb (countAt file at) 1)) 1 1 (notNeed n)
 
 -- "Bits from n up are zero."
 abbrev pub notRow : ℕ → List ℕ → ℕ → Bool
@@ -60,8 +56,8 @@ notRow n body at = not (within n (fourBytesAt body at))
 
 -- "Count of rounds, 0 to 256; per round n rows of 4 bytes, high byte first"
 unfoldable pub lossesOf : List ℕ → ℕ → ℕ → Section
-lossesOf file at n = checked file 4 (notRow n) (counted file at (ltb 256 (countAt file at)) (countAt file at * n * 4))
+lossesOf file at n = sectionAt file at (ltb 256 (countAt file at)) (countAt file at * n * 4) 4 (notRow n)
 
 -- "Count n times rounds, then that many coins (0 or 1), round by round, head by head."
 unfoldable pub coinsOf : List ℕ → ℕ → ℕ → Section
-coinsOf file at count = checked file 1 notBit (counted file at (not (eqb (countAt file at) count)) count)
+coinsOf file at count = sectionAt file at (not (eqb (countAt file at) count)) count 1 notBit

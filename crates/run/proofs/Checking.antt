@@ -2,7 +2,7 @@
 use Prim.Native.Nat.{ℕ, _+_, _*_, _/_, _≤_, _<_}
 use mathlib.Core.Path.{_≡_, refl, sym, ap, ap₂, subst, fun-ext, _∙_}
 use mathlib.Core.List.{List}
-use mathlib.Core.Bool.{Bool, _&&_, _||_, not}
+use mathlib.Core.Bool.{Bool, true, false, _&&_, _||_, not}
 use native.Mathlib.Decide.{decLt}
 use native.Mathlib.Omega.{arith}
 use lib.ListN.{length, getD, take, drop, length-take}
@@ -12,8 +12,9 @@ use Rattle.rules.specs.Below.{first}
 use Rattle.rules.proofs.Counting.Below.{first-le}
 use Rattle.file.specs.declared.Section.{Section}
 use Rattle.file.specs.declared.Section.the-variants.{Body, Refused}
-use Rattle.file.specs.Section.{checked, notBit, notNeed}
-use Rattle.run.specs.Sections.{fileMost, countBytes, bodyMost, Near, outside, unlessBroken}
+use Rattle.file.specs.Section.{sectionAt, notBit, notNeed}
+use Rattle.file.proofs.reading.Sections.{ordered}
+use Rattle.run.specs.Sections.{fileMost, countBytes, bodyMost, Near, outside, unlessBroken, counted, checked}
 
 -- a refused section is not looked at
 pub checked-refused : (file : List ℕ) (section : Section) (width number place : ℕ) (breaks : List ℕ → ℕ → Bool) → section ≡ Refused number place → section ≡ checked file width breaks section
@@ -27,6 +28,21 @@ unfolding checked unlessBroken
 checked-body file body section answer start size width broken breaks is at found e =
     e ∙ ap (λ (k : ℕ). unlessBroken start size k (length body / width) width) found
     ∙ ap (λ (part : List ℕ). unlessBroken start size (first (length part / width) (λ i. breaks part (i * width))) (length part / width) width) at ∙ sym (ap (checked file width breaks) is)
+
+-- the count and the bytes, one after the other
+pub in-order : (file : List ℕ) (at : ℕ) (countBreaks : Bool) (size width : ℕ) (breaks : List ℕ → ℕ → Bool)
+    → checked file width breaks (counted file at countBreaks size) ≡ sectionAt file at countBreaks size width breaks
+unfolding counted checked unlessBroken sectionAt
+in-order file at countBreaks size width breaks =
+    go (ltb (length file) (at + 2)) countBreaks (ltb (length file) (at + 2 + size))
+  where
+    go : (a b c : Bool)
+        → checked file width breaks (ordered file at a b c (Body (at + 2) size))
+        ≡ ordered file at a b c (checked file width breaks (Body (at + 2) size))
+    go true b c = refl
+    go false true c = refl
+    go false false true = refl
+    go false false false = refl
 
 -- and is short where the section is near
 pub near-short : (file body : List ℕ) (section : Section) (start size : ℕ) → section ≡ Body start size → Near section → body ≡ take size (drop start file) → (start ≤ fileMost + countBytes) × (length body ≤ bodyMost)

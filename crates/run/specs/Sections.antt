@@ -1,12 +1,14 @@
 -- What the section readers hand to one another.
-use Prim.Native.Nat.{ℕ, _+_, _*_, _≤_}
+use Prim.Native.Nat.{ℕ, _+_, _*_, _/_, _≤_}
 use mathlib.Core.List.{List}
 use mathlib.Core.Bool.{Bool, cond, _||_}
-use lib.ListN.{getD}
+use lib.ListN.{length, getD}
 use lib.Dec.{ltb}
+use Rattle.rules.specs.Below.{first}
 use Rattle.rules.specs.Sizes.{headsMost}
 use Rattle.file.specs.declared.Section.{Section}
 use Rattle.file.specs.declared.Section.the-variants.{Body, Refused}
+use Rattle.file.specs.Section.{bodyOf}
 
 -- "The largest file is 41,001 bytes."
 abbrev pub fileMost : ℕ
@@ -56,3 +58,18 @@ outside low high bytes at = ltb (getD bytes at 0) low || ltb high (getD bytes at
 unfoldable pub unlessBroken : ℕ → ℕ → ℕ → ℕ → ℕ → Section
 unlessBroken start size broken pieces width =
     cond (ltb broken pieces) (Refused 14 (start + broken * width)) (Body start size)
+
+-- a section by its count: its rule, then the body's length
+unfoldable pub counted : List ℕ → ℕ → Bool → ℕ → Section
+counted file at breaks size =
+    cond (ltb (length file) (at + 2)) (Refused 12 (length file))
+    (cond breaks (Refused 13 at)
+    (cond (ltb (length file) (at + 2 + size)) (Refused 12 (length file)) (Body (at + 2) size)))
+
+-- and by its bytes; `sectionAt` is both
+unfoldable pub checked : List ℕ → ℕ → (List ℕ → ℕ → Bool) → Section → Section
+checked file width breaks (Refused number place) = Refused number place
+checked file width breaks (Body start size) =
+    let body = bodyOf file (Body start size) in
+    let pieces = length body / width in
+    unlessBroken start size (first pieces (λ i. breaks body (i * width))) pieces width

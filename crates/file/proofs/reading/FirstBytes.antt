@@ -1,5 +1,5 @@
 -- The first 41,002 bytes of a file decide its report: the largest file has 41,001, so what follows is read by nobody.
-use Prim.Native.Nat.{ℕ, _+_, _*_, _≤_, _<_}
+use Prim.Native.Nat.{ℕ, _+_, _*_, _/_, _≤_, _<_}
 use mathlib.Core.Path.{_≡_, refl, sym, ap, ap₂, _∙_}
 use mathlib.Core.List.{List}
 use mathlib.Core.Bool.{Bool, true, false, cond, not}
@@ -11,21 +11,21 @@ use lib.Dec.{ltb, eqb}
 use lib.Seq.{take-all, getD-take, getD-drop, ext-getD}
 use borrow.Author.Tests.{lt-ltb, le-ltb, ltb-false}
 use Rattle.rules.specs.declared.Head.{Head}
-use Rattle.rules.specs.Below.{count}
+use Rattle.rules.specs.Below.{first, count}
 use Rattle.rules.specs.Ballot.{notHeads}
 use Rattle.rules.proofs.Meaning.Meanings.{heads}
 use Rattle.file.specs.declared.Section.{Section}
 use Rattle.file.specs.declared.Section.the-variants.{Body, Refused}
 use Rattle.file.specs.declared.Plan.{Plan}
 use Rattle.file.specs.declared.Outcome.{Outcome}
-use Rattle.file.specs.Section.{countAt, bodyOf, counted, checked, notBit, notNeed, notRow, proposalsOf, neededOf}
+use Rattle.file.specs.Section.{countAt, bodyOf, sectionAt, notBit, notNeed, notRow, proposalsOf, neededOf}
 use Rattle.file.specs.Section.{lossesOf, coinsOf}
 use Rattle.file.specs.Plan.{refusedPlan, taken, planOf}
 use Rattle.file.specs.Table.{tableAfter}
 use Rattle.file.specs.Figures.{boundOf, outcomeOf}
 use Rattle.file.specs.Benched.{emptyTable}
 use Rattle.file.specs.Report.{linesOf, reportOf}
-use Rattle.file.proofs.reading.Sections.{ordered, in-order, proposals-body, needed-body, losses-body, coins-body}
+use Rattle.file.proofs.reading.Sections.{ordered, proposals-body, needed-body, losses-body, coins-body}
 use Rattle.file.proofs.reading.Plans.{accepted-file, refused-file}
 use Rattle.file.proofs.running.Placing.{after-nothing}
 
@@ -94,26 +94,27 @@ module _ (file : List ℕ) (m : ℕ) (enough : 41002 ≤ m) (longer : m < length
   -- a section that ends in the first bytes is read alike
   section-same : (at : ℕ) (breaks : Bool) (size width : ℕ) (test : List ℕ → ℕ → Bool) → at + 2 ≤ m
       → (breaks ≡ false → at + 2 + size ≤ m)
-      → checked front width test (counted front at breaks size) ≡ checked file width test (counted file at breaks size)
-  unfolding checked
+      → sectionAt front at breaks size width test ≡ sectionAt file at breaks size width test
+  unfolding sectionAt
   section-same at breaks size width test h f =
-      in-order front at breaks size width test
-      ∙ rw (le-ltb (length front) (at + 2) (omega (arith, front-length)), le-ltb (length file) (at + 2) (omega arith))
+      rw (le-ltb (length front) (at + 2) (omega (arith, front-length)), le-ltb (length file) (at + 2) (omega arith))
       (go breaks f)
-      ∙ sym (in-order file at breaks size width test)
     where
+      looked : List ℕ → Section
+      looked body =
+          let broken = first (length body / width) (λ i. test body (i * width)) in
+          cond (ltb broken (length body / width)) (Refused 14 (at + 2 + broken * width)) (Body (at + 2) size)
+
       go : (b : Bool) → (b ≡ false → at + 2 + size ≤ m)
-          → ordered front at false b (ltb (length front) (at + 2 + size))
-          (checked front width test (Body (at + 2) size))
-          ≡ ordered file at false b (ltb (length file) (at + 2 + size)) (checked file width test (Body (at + 2) size))
+          → ordered front at false b (ltb (length front) (at + 2 + size)) (looked (bodyOf front (Body (at + 2) size)))
+          ≡ ordered file at false b (ltb (length file) (at + 2 + size)) (looked (bodyOf file (Body (at + 2) size)))
       go true f = refl
       go false f =
           let e = f refl in
           rw (
             le-ltb (length front) (at + 2 + size) (omega (arith, front-length)),
             le-ltb (length file) (at + 2 + size) (omega arith),
-            body-same (at + 2) size e,
-          ) refl
+          ) (ap looked (body-same (at + 2) size e))
 
   -- sections that are read alike lead to one plan, where what comes next does
   taken-same : (section other : Section) (f g : ℕ → ℕ → Plan) → section ≡ other
@@ -130,14 +131,14 @@ module _ (file : List ℕ) (m : ℕ) (enough : 41002 ≤ m) (longer : m < length
   proposals-same : proposalsOf front ≡ proposalsOf file
   unfolding proposalsOf
   proposals-same =
-      ap (λ (c : ℕ). checked front 1 notBit (counted front 0 (notHeads c) c)) (count-same 0 (omega (arith, enough)))
+      ap (λ (c : ℕ). sectionAt front 0 (notHeads c) c 1 notBit) (count-same 0 (omega (arith, enough)))
       ∙ section-same 0 (notHeads (countAt file 0)) (countAt file 0) 1 notBit (omega (arith, enough))
       (λ e. let few = heads (countAt file 0) e in omega (arith, enough, few))
 
   needed-same : (at n : ℕ) → at ≤ 34 → neededOf front at n ≡ neededOf file at n
   unfolding neededOf
   needed-same at n low =
-      ap (λ (c : ℕ). checked front 1 (notNeed n) (counted front at (not (eqb c 1)) 1))
+      ap (λ (c : ℕ). sectionAt front at (not (eqb c 1)) 1 1 (notNeed n))
       (count-same at (omega (arith, enough, low)))
       ∙ section-same at (not (eqb (countAt file at) 1)) 1 1 (notNeed n) (omega (arith, enough, low))
       (λ e. omega (arith, enough, low))
@@ -145,7 +146,7 @@ module _ (file : List ℕ) (m : ℕ) (enough : 41002 ≤ m) (longer : m < length
   losses-same : (at n : ℕ) → at ≤ 37 → n ≤ 32 → lossesOf front at n ≡ lossesOf file at n
   unfolding lossesOf
   losses-same at n low few =
-      ap (λ (c : ℕ). checked front 4 (notRow n) (counted front at (ltb 256 c) (c * n * 4)))
+      ap (λ (c : ℕ). sectionAt front at (ltb 256 c) (c * n * 4) 4 (notRow n))
       (count-same at (omega (arith, enough, low)))
       ∙ section-same at (ltb 256 (countAt file at)) (countAt file at * n * 4) 4 (notRow n)
       (omega (arith, enough, low))
@@ -155,7 +156,7 @@ module _ (file : List ℕ) (m : ℕ) (enough : 41002 ≤ m) (longer : m < length
   coins-same : (at count : ℕ) → at ≤ 32807 → count ≤ 8192 → coinsOf front at count ≡ coinsOf file at count
   unfolding coinsOf
   coins-same at count low few =
-      ap (λ (c : ℕ). checked front 1 notBit (counted front at (not (eqb c count)) count))
+      ap (λ (c : ℕ). sectionAt front at (not (eqb c count)) count 1 notBit)
       (count-same at (omega (arith, enough, low)))
       ∙ section-same at (not (eqb (countAt file at) count)) count 1 notBit (omega (arith, enough, low))
       (λ e. omega (arith, enough, low, few))

@@ -16,11 +16,11 @@ use Rattle.rules.proofs.Counting.Truth.{never}
 use Rattle.file.specs.declared.Section.{Section}
 use Rattle.file.specs.declared.Section.the-variants.{Refused}
 use Rattle.file.specs.declared.Plan.{Plan}
-use Rattle.file.specs.Section.{countAt, counted, checked, proposalsOf, neededOf, lossesOf, coinsOf}
+use Rattle.file.specs.Section.{countAt, sectionAt, proposalsOf, neededOf, lossesOf, coinsOf}
 use Rattle.file.specs.Rules.{StandsIn, KeepsEveryRule}
 use Rattle.file.specs.Refusal.{sectionRefusals, BitAt, Need, LossRow, fileRefusals}
 use Rattle.file.specs.Plan.{refusedPlan, taken, planOf}
-use Rattle.file.proofs.reading.Sections.{Tells, tells-below, in-order, Meant, KeptSection, kept, tells-rule}
+use Rattle.file.proofs.reading.Sections.{Tells, tells-below, Meant, KeptSection, kept, tells-rule}
 use Rattle.file.proofs.reading.Sections.{tells-first}
 use Rattle.file.proofs.reading.Sections.{first-near, proposals-meant, needed-meant, losses-meant, coins-meant}
 
@@ -125,13 +125,11 @@ module _ (file : List ℕ) (room : ℕ) where
       {Keeps : ℕ → Type 0}
       → Meant file count breaks Rule size pieces width test Keeps → (next : ℕ → ℕ → Plan) (later : List Row)
       → (KeptSection file count Rule size pieces width Keeps (count + 2) size → Answers (next (count + 2) size) later)
-      → Answers (taken (checked file width test (counted file count breaks size)) next)
+      → Answers (taken (sectionAt file count breaks size width test) next)
       (sectionRefusals file count Rule pieces width Keeps ++ later)
-  unfolding checked
+  unfolding sectionAt
   section {count} {breaks} {Rule} {size} {pieces} {width} {test} {Keeps} meant next later then =
-      subst (λ (s : Section). Answers (taken s next) (sectionRefusals file count Rule pieces width Keeps ++ later))
-      (sym (in-order file count breaks size width test))
-      (section-line next _ _ (omega arith, omega arith, omega arith)
+      section-line next _ _ (omega arith, omega arith, omega arith)
       (tells-below (length file) (count + 2) (λ l. omega (arith, l)) (λ l. omega (arith, l)) (omega arith))
       (λ e. omega arith) (λ a.
       section-line next _ _ (omega arith, omega arith, omega arith)
@@ -141,7 +139,7 @@ module _ (file : List ℕ) (room : ℕ) where
       (λ l. omega (arith, l, meant .sized)) (omega arith)) (λ e. omega arith) (λ c.
       section-line next _ _ (omega arith, omega arith, omega arith)
       (tells-first meant c) (first-near meant c) (λ d.
-      then (kept meant (count + 2) size refl refl b c d))))))
+      then (kept meant (count + 2) size refl refl b c d)))))
 
   -- n, the rounds, and where the counts stand, as in specs/Refusal
   abbrev n : ℕ

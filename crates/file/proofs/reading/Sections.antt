@@ -21,7 +21,7 @@ use Rattle.rules.proofs.Counting.Below.{not-some, first-holds, first-before, fi
 use Rattle.rules.proofs.Counting.Sets.{means-within}
 use Rattle.file.specs.declared.Section.{Section}
 use Rattle.file.specs.declared.Section.the-variants.{Body, Refused}
-use Rattle.file.specs.Section.{countAt, bodyOf, counted, checked, notBit, notNeed}
+use Rattle.file.specs.Section.{countAt, bodyOf, sectionAt, notBit, notNeed}
 use Rattle.file.specs.Section.{notRow, proposalsOf, neededOf, lossesOf, coinsOf}
 use Rattle.file.specs.Refusal.{FirstThatBreaks, BitAt, Need, LossRow}
 
@@ -89,27 +89,10 @@ tells-below a b f g = tells-at (means-as f g means-lt)
 
 -- ---- any section
 
--- the three tests before a section's bytes
+-- "In each section the count is read, then its rule tested, then the body's length, then its bytes."
 abbrev pub ordered : List ℕ → ℕ → Bool → Bool → Bool → Section → Section
 ordered file count a b c section =
     cond a (Refused 12 (length file)) (cond b (Refused 13 count) (cond c (Refused 12 (length file)) section))
-
--- "In each section the count is read, then its rule tested, then the body's length, then its bytes."
-pub in-order : (file : List ℕ) (count : ℕ) (breaks : Bool) (size width : ℕ) (test : List ℕ → ℕ → Bool)
-    → checked file width test (counted file count breaks size)
-    ≡ ordered file count (ltb (length file) (count + 2)) breaks (ltb (length file) (count + 2 + size))
-    (checked file width test (Body (count + 2) size))
-unfolding counted checked
-in-order file count breaks size width test =
-    go (ltb (length file) (count + 2)) breaks (ltb (length file) (count + 2 + size))
-  where
-    go : (a b c : Bool)
-        → checked file width test (ordered file count a b c (Body (count + 2) size))
-        ≡ ordered file count a b c (checked file width test (Body (count + 2) size))
-    go true b c = refl
-    go false true c = refl
-    go false false true = refl
-    go false false false = refl
 
 -- its tests mean the rule of its count and the rule of its pieces
 pub record Meant (file : List ℕ) (count : ℕ) (breaks : Bool) (Rule : Type 0) (size pieces width : ℕ)
@@ -205,12 +188,12 @@ module _ {file : List ℕ} {count : ℕ} {breaks : Bool} {Rule : Type 0} {size p
       let few : broken ≤ pieces = omega (arith, ltb-true broken (length body / width) e, all inside) in
       omega (arith, ltb-false (length file) (count + 2 + size) inside, meant .sized, mul-le-mul-right width few)
 
-  pub section-body : (start long : ℕ) → checked file width test (counted file count breaks size) ≡ Body start long
+  pub section-body : (start long : ℕ) → sectionAt file count breaks size width test ≡ Body start long
       → KeptSection file count Rule size pieces width Keeps start long
-  unfolding checked
+  unfolding sectionAt
   section-body start long e =
       go (ltb (length file) (count + 2)) breaks (ltb (length file) (count + 2 + size))
-      (ltb broken (length body / width)) refl refl refl (sym (in-order file count breaks size width test) ∙ e)
+      (ltb broken (length body / width)) refl refl refl e
     where
       go : (a b c d : Bool) → breaks ≡ b → ltb (length file) (count + 2 + size) ≡ c
           → ltb broken (length body / width) ≡ d

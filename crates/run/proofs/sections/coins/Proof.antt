@@ -4,9 +4,10 @@ use mathlib.Core.Bool.{Bool, not}
 use mathlib.Core.List.{List}
 use lib.Dec.{eqb}
 use borrow.Author.Needs.{needs}
-use Rattle.file.specs.Section.{counted, checked, coinsOf}
+use Rattle.file.specs.Section.{notBit, coinsOf}
+use Rattle.run.specs.Sections.{counted, checked}
 use Rattle.file.specs.declared.Section.{Section}
-use Rattle.run.proofs.Checking.{outside-bits}
+use Rattle.run.proofs.Checking.{outside-bits, in-order}
 use Rattle.run.proofs.sections.coins.Statement.{statement}
 use Rattle.run.proofs.sections.coins.Tie as tie
 
@@ -25,6 +26,7 @@ returns c = let file = c .before .before .before .before .args .file .now in
     let at = c .before .before .before .before .args .at in
     let count = c .before .before .before .before .args .count in
     c .checked-bytes .ensures ∙ ap₂ (λ (breaks : List ℕ → ℕ → Bool) (section : Section). checked file 1 breaks section) outside-bits (c .before .counted .ensures .0 ∙ ap (λ (k : ℕ). counted file at (not (eqb k count)) count) (c .before .before .count-at .ensures .0))
+    ∙ in-order file at _ _ 1 notBit
 
 pub coins-spec : {M : Type 1} → statement M
 coins-spec = tie.close (tie.spec count-at-requires counted-requires checked-bytes-requires returns)

@@ -1,7 +1,7 @@
 use native.Mathlib.Omega.{arith}
 use borrow.Author.Tests.{lt-ltb, le-ltb}
 use borrow.Author.Needs.{needs}
-use Rattle.file.specs.Section.{counted}
+use Rattle.run.specs.Sections.{counted}
 use Rattle.run.proofs.sections.counted.Statement.{statement}
 use Rattle.run.proofs.sections.counted.Tie as tie
 

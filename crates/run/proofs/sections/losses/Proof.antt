@@ -4,7 +4,9 @@ use native.Mathlib.Nat.{mul-le-mul}
 use native.Mathlib.Omega.{arith}
 use lib.Dec.{ltb}
 use borrow.Author.Needs.{needs}
-use Rattle.file.specs.Section.{counted, checked, notRow, lossesOf}
+use Rattle.file.specs.Section.{notRow, lossesOf}
+use Rattle.run.specs.Sections.{counted, checked}
+use Rattle.run.proofs.Checking.{in-order}
 use Rattle.run.proofs.sections.losses.Statement.{statement}
 use Rattle.run.proofs.sections.losses.Tie as tie
 
@@ -29,6 +31,7 @@ returns c = let file = c .before .before .before .before .args .file .now in
     let at = c .before .before .before .before .args .at in
     let n = c .before .before .before .before .args .n in
     c .checked-rows .ensures ∙ ap (checked file 4 (notRow n)) (c .before .counted .ensures .0 ∙ ap (λ (k : ℕ). counted file at (ltb 256 k) (k * n * 4)) (c .before .before .count-at .ensures .0))
+    ∙ in-order file at _ _ 4 (notRow n)
 
 pub losses-spec : {M : Type 1} → statement M
 losses-spec =
