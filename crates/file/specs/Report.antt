@@ -18,7 +18,6 @@ use Rattle.rules.specs.declared.Decision.the-variants.{Zero as ForZero, One as 
 use Rattle.rules.specs.declared.Head.{Head}
 use Rattle.rules.specs.Below.{first}
 use Rattle.file.specs.declared.Outcome.{Outcome}
-use Rattle.file.specs.declared.Benched.{Benched}
 use Rattle.file.specs.declared.Text.{Text}
 use Rattle.file.specs.Table.{headOf}
 use Rattle.file.specs.Benched.{benchedOf}
@@ -77,15 +76,11 @@ lastLine o = figure "rounds " (o .rounds) ++ figure " good " (o .good) ++ figure
 unfoldable pub refusalLine : Outcome → List ℕ
 refusalLine o = figure "refused " (o .number) ++ figure " at " (o .place) ++ word "\n"
 
--- the whole report
-unfoldable pub linesOf : Benched → List ℕ
-linesOf b =
-    let o = b .outcome in
-    cond (eqb (o .number) 0) (firstLine o ++ headLines (o .n) (b .heads) ++ lastLine o) (refusalLine o)
-
 -- what the program prints for a file
-abbrev pub reportOf : List ℕ → List ℕ
-reportOf file = linesOf (benchedOf file)
+unfoldable pub reportOf : List ℕ → List ℕ
+reportOf file =
+    let o = benchedOf file .outcome in
+    cond (eqb (o .number) 0) (firstLine o ++ headLines (o .n) (benchedOf file .heads) ++ lastLine o) (refusalLine o)
 
 -- a text of these bytes, the rest of it zero
 abbrev pub textOf : List ℕ → Text

@@ -18,11 +18,11 @@ use Rattle.rules.specs.declared.Decision.{Decision}
 use Rattle.rules.specs.declared.Decision.the-variants.{Zero as ForZero, One as ForOne, Unwritten}
 use Rattle.rules.specs.declared.Head.{Head}
 use Rattle.file.specs.declared.Outcome.{Outcome}
-use Rattle.file.specs.declared.Benched.{Benched}
 use Rattle.file.specs.declared.Text.{Text}
 use Rattle.file.specs.Table.{headOf}
+use Rattle.file.specs.Benched.{benchedOf}
 use Rattle.file.specs.Report.{word, decimal, figure, valueWord, statusWord, decisionWord, firstLine, headLine, headLines}
-use Rattle.file.specs.Report.{lastLine, refusalLine, linesOf, textOf}
+use Rattle.file.specs.Report.{lastLine, refusalLine, reportOf, textOf}
 use Rattle.file.proofs.printing.Decimals.{decimal-short}
 use Rattle.run.specs.Writing.{Held, noText, fitting, withWord}
 
@@ -214,23 +214,25 @@ refusal-short : (o : Outcome) → length (refusalLine o) ≤ 53
 unfolding refusalLine
 refusal-short o = both (both (a-figure "refused " (o .number)) (a-figure " at " (o .place))) (a-word "\n") .fits
 
-pub report-short : (b : Benched) → b .outcome .n ≤ 32 → length (linesOf b) ≤ 4096
-unfolding linesOf
-report-short b few = go (eqb (b .outcome .number) 0)
+pub report-short : (file : List ℕ) → benchedOf file .outcome .n ≤ 32 → length (reportOf file) ≤ 4096
+unfolding reportOf
+report-short file few = go (eqb (benchedOf file .outcome .number) 0)
   where
     o : Outcome
-    o = b .outcome
+    o = benchedOf file .outcome
 
-    go : (t : Bool)
-        → length (cond t (firstLine o ++ headLines (o .n) (b .heads) ++ lastLine o) (refusalLine o)) ≤ 4096
+    lines : List ℕ
+    lines = headLines (o .n) (benchedOf file .heads)
+
+    go : (t : Bool) → length (cond t (firstLine o ++ lines ++ lastLine o) (refusalLine o)) ≤ 4096
     go true =
         omega (
           arith,
           few,
           first-short o,
           last-short o,
-          lines-short (o .n) (b .heads),
-          length-append (firstLine o ++ headLines (o .n) (b .heads)) (lastLine o),
-          length-append (firstLine o) (headLines (o .n) (b .heads)),
+          lines-short (o .n) (benchedOf file .heads),
+          length-append (firstLine o ++ lines) (lastLine o),
+          length-append (firstLine o) lines,
         )
     go false = omega (arith, refusal-short o)

@@ -17,13 +17,12 @@ use Rattle.rules.proofs.Rounds.Rounds.{sent-now}
 use Rattle.rules.proofs.Undivided.Phases.{phases-low}
 use Rattle.file.specs.declared.Plan.{Plan}
 use Rattle.file.specs.declared.Outcome.{Outcome}
-use Rattle.file.specs.declared.Benched.{Benched}
 use Rattle.file.specs.Plan.{planOf}
 use Rattle.file.specs.Table.{headOf, rowsIn, tableAfter}
 use Rattle.file.specs.Figures.{lostIn, boundOf, goodIn, decidedIn, outcomeOf}
 use Rattle.file.specs.Vote.{voteFor, eventsFor}
 use Rattle.file.specs.Benched.{emptyTable, benchedOf}
-use Rattle.file.specs.Report.{firstLine, headLines, lastLine, refusalLine, linesOf, reportOf, SameState}
+use Rattle.file.specs.Report.{firstLine, headLines, lastLine, refusalLine, reportOf, SameState}
 use Rattle.file.proofs.reading.Plans.{RuleByRule, RefusedFile, accepted-file, refused-file}
 use Rattle.file.proofs.running.BenchIsRun.{heads-are, rounds-are-run, events-length}
 use Rattle.file.proofs.reading.FirstBytes.{refused-outcome}
@@ -129,16 +128,17 @@ module _ (file : List ℕ) (short : length file < 2 ^ 64) where
 
 -- ---- which lines are printed
 
-accepted-lines : (b : Benched) → b .outcome .number ≡ 0
-    → linesOf b ≡ firstLine (b .outcome) ++ (headLines (b .outcome .n) (b .heads) ++ lastLine (b .outcome))
-unfolding linesOf
-accepted-lines b zero =
-    rw (eq-eqb (b .outcome .number) 0 zero)
-    (append-assoc (firstLine (b .outcome)) (headLines (b .outcome .n) (b .heads)) (lastLine (b .outcome)))
+accepted-lines : (file : List ℕ) → benchedOf file .outcome .number ≡ 0
+    → reportOf file ≡ firstLine (benchedOf file .outcome)
+    ++ (headLines (benchedOf file .outcome .n) (benchedOf file .heads) ++ lastLine (benchedOf file .outcome))
+unfolding reportOf
+accepted-lines file zero =
+    rw (eq-eqb (benchedOf file .outcome .number) 0 zero) (append-assoc (firstLine (benchedOf file .outcome)) _ _)
 
-refused-lines : (b : Benched) → (b .outcome .number ≡ 0 → ⊥) → linesOf b ≡ refusalLine (b .outcome)
-unfolding linesOf
-refused-lines b some = rw (ne-eqb (b .outcome .number) 0 some) refl
+refused-lines : (file : List ℕ) → (benchedOf file .outcome .number ≡ 0 → ⊥)
+    → reportOf file ≡ refusalLine (benchedOf file .outcome)
+unfolding reportOf
+refused-lines file some = rw (ne-eqb (benchedOf file .outcome .number) 0 some) refl
 
 -- "heads" and "refused" have different first letters
 letters-differ : (o p : Outcome) (more : List ℕ) → firstLine o ++ more ≡ refusalLine p → ⊥
@@ -175,7 +175,7 @@ module _ (file other : List ℕ) (short : length file < 2 ^ 64) (brief : length 
 
       lines : firstLine o ++ (headLines (o .n) (benchedOf file .heads) ++ lastLine o)
           ≡ firstLine p ++ (headLines (p .n) (benchedOf other .heads) ++ lastLine p)
-      lines = sym (accepted-lines (benchedOf file) a) ∙ e ∙ accepted-lines (benchedOf other) b
+      lines = sym (accepted-lines file a) ∙ e ∙ accepted-lines other b
 
       x : (o .n ≡ p .n) × (o .needed ≡ p .needed) × (o .bound ≡ p .bound)
           × (headLines (o .n) (benchedOf file .heads) ++ lastLine o
@@ -226,7 +226,7 @@ module _ (file other : List ℕ) (short : length file < 2 ^ 64) (brief : length 
       same : (o .number ≡ p .number) × (o .place ≡ p .place)
       same =
           refusal-apart o p (small file short) (small other brief)
-          (sym (refused-lines (benchedOf file) a) ∙ e ∙ refused-lines (benchedOf other) b)
+          (sym (refused-lines file a) ∙ e ∙ refused-lines other b)
 
       is : o ≡ p
       is =
@@ -245,8 +245,8 @@ module _ (file other : List ℕ) (short : length file < 2 ^ 64) (brief : length 
       go (yes a) (no b) =
           absurd
           (letters-differ o p _
-          (sym (accepted-lines (benchedOf file) a) ∙ e ∙ refused-lines (benchedOf other) b))
+          (sym (accepted-lines file a) ∙ e ∙ refused-lines other b))
       go (no a) (yes b) =
           absurd
           (letters-differ p o _
-          (sym (accepted-lines (benchedOf other) b) ∙ sym e ∙ refused-lines (benchedOf file) a))
+          (sym (accepted-lines other b) ∙ sym e ∙ refused-lines file a))

@@ -1,7 +1,7 @@
 -- The first 41,002 bytes of a file decide its report: the largest file has 41,001, so what follows is read by nobody.
 use Prim.Native.Nat.{ℕ, _+_, _*_, _/_, _≤_, _<_}
 use mathlib.Core.Path.{_≡_, refl, sym, ap, ap₂, _∙_}
-use mathlib.Core.List.{List}
+use mathlib.Core.List.{List, _++_}
 use mathlib.Core.Bool.{Bool, true, false, cond, not}
 use native.Mathlib.Decide.{decLt}
 use native.Mathlib.Nat.{mul-le-mul}
@@ -24,7 +24,7 @@ use Rattle.file.specs.Plan.{refusedPlan, taken, planOf}
 use Rattle.file.specs.Table.{tableAfter}
 use Rattle.file.specs.Figures.{boundOf, outcomeOf}
 use Rattle.file.specs.Benched.{emptyTable}
-use Rattle.file.specs.Report.{linesOf, reportOf}
+use Rattle.file.specs.Report.{firstLine, headLines, lastLine, refusalLine, reportOf}
 use Rattle.file.proofs.reading.Sections.{ordered, proposals-body, needed-body, losses-body, coins-body}
 use Rattle.file.proofs.reading.Plans.{accepted-file, refused-file}
 use Rattle.file.proofs.running.Placing.{after-nothing}
@@ -199,14 +199,15 @@ module _ (file : List ℕ) (m : ℕ) (enough : 41002 ≤ m) (longer : m < length
       omega (arith, enough, longer, A .whole, A .coins, mul-le-mul (A .rounds) least)
 
   front-decides : reportOf front ≡ reportOf file
+  unfolding reportOf
   front-decides =
       let R = refused-file file 32 goes-on in
       let e = refused-outcome file emptyTable (R .number) (R .place) (R .is) in
       let f = refused-outcome front emptyTable (R .number) (R .place) (plan-same 32 ∙ R .is) in
       let x = refused-table file emptyTable (R .number) (R .place) (R .is) in
       let y = refused-table front emptyTable (R .number) (R .place) (plan-same 32 ∙ R .is) in
-      ap₂ (λ (o : Outcome) (t : List Head). linesOf (record { outcome = o; heads = t })) (f ∙ sym e)
-      (y ∙ sym x)
+      ap₂ (λ (o : Outcome) (t : List Head). cond (eqb (o .number) 0)
+      (firstLine o ++ headLines (o .n) t ++ lastLine o) (refusalLine o)) (f ∙ sym e) (y ∙ sym x)
 
 -- 41,002 bytes decide
 pub the-first-bytes-decide : (file : List ℕ) (m : ℕ) → 41002 ≤ m → reportOf (take m file) ≡ reportOf file
