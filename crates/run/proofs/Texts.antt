@@ -110,6 +110,12 @@ pub then-word : (text before after : Text) (said word : List ℕ) → Held text 
 then-word text before after said word held e f =
     f ∙ ap (λ (t : Text). withWord t word) e ∙ word-word text said word held
 
+-- and with two more, put in as one
+pub then-two : (text before after : Text) (said first second : List ℕ) → Held text → before ≡ withWord text said
+    → after ≡ withWord before (first ++ second) → after ≡ withWord text (said ++ first ++ second)
+then-two text before after said first second held e f =
+    then-word text before after said (first ++ second) held e f ∙ ap (withWord text) (sym (append-assoc said first second))
+
 -- ---- the bytes, as long as there is room
 
 drop-zeros : (k n : ℕ) → drop {A = ℕ} k (replicate n 0) ≡ replicate (n - k) 0

@@ -1,8 +1,9 @@
 // The lines of a report, each added to a text.
 ghost use mathlib.Core.Path.{_≡_};
 ghost use Prim.Native.Nat.{_≤_};
+ghost use mathlib.Core.List.{_++_};
 ghost use lib.ListN.{length};
-ghost use Rattle.file.specs.Report.{valueWord, statusWord, decisionWord};
+ghost use Rattle.file.specs.Report.{word, valueWord, statusWord, decisionWord};
 ghost use Rattle.file.specs.Report.{firstLine, headLine, headLines, lastLine, refusalLine};
 ghost use Rattle.run.specs.Writing.{Held, withWord};
 use crate::text::with_figure;
@@ -72,43 +73,45 @@ fn head_line(text: Text, s: usize, head: Head) -> Text
     let decision = head.decision;
     let a = with_figure(text, b"head ", s);
     let b = with_figure(a, b" phase ", head.phase as usize);
-    let c = with_value(with_word(b, b" value "), value);
-    let d = with_status(with_word(c, b" status "), status);
-    let e = with_decision(with_word(d, b" decision "), decision);
+    let c = with_value(b, value);
+    let d = with_status(c, status);
+    let e = with_decision(d, decision);
     with_word(e, b"\n")
 }
 
+// The word that says what follows and the value's own go in together: each word that a text takes is a
+// copy of the text.
 fn with_value(text: Text, value: Value) -> Text
     requires { ⌜ Held text ⌝ }
-    ensures { λ r. ⌜ r ≡ withWord text (valueWord value) ⌝ }
+    ensures { λ r. ⌜ r ≡ withWord text (word " value " ++ valueWord value) ⌝ }
     ensures { λ r. ⌜ Held r ⌝ }
 {
     match value {
-        Value::Zero => with_word(text, b"0"),
-        Value::One => with_word(text, b"1"),
-        Value::Blank => with_word(text, b"blank"),
+        Value::Zero => with_word(text, b" value 0"),
+        Value::One => with_word(text, b" value 1"),
+        Value::Blank => with_word(text, b" value blank"),
     }
 }
 
 fn with_status(text: Text, status: Status) -> Text
     requires { ⌜ Held text ⌝ }
-    ensures { λ r. ⌜ r ≡ withWord text (statusWord status) ⌝ }
+    ensures { λ r. ⌜ r ≡ withWord text (word " status " ++ statusWord status) ⌝ }
     ensures { λ r. ⌜ Held r ⌝ }
 {
     match status {
-        Status::Undecided => with_word(text, b"undecided"),
-        Status::Decided => with_word(text, b"decided"),
+        Status::Undecided => with_word(text, b" status undecided"),
+        Status::Decided => with_word(text, b" status decided"),
     }
 }
 
 fn with_decision(text: Text, decision: Decision) -> Text
     requires { ⌜ Held text ⌝ }
-    ensures { λ r. ⌜ r ≡ withWord text (decisionWord decision) ⌝ }
+    ensures { λ r. ⌜ r ≡ withWord text (word " decision " ++ decisionWord decision) ⌝ }
     ensures { λ r. ⌜ Held r ⌝ }
 {
     match decision {
-        Decision::Zero => with_word(text, b"0"),
-        Decision::One => with_word(text, b"1"),
-        Decision::Unwritten => with_word(text, b"none"),
+        Decision::Zero => with_word(text, b" decision 0"),
+        Decision::One => with_word(text, b" decision 1"),
+        Decision::Unwritten => with_word(text, b" decision none"),
     }
 }

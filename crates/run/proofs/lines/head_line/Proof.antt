@@ -1,6 +1,6 @@
 use borrow.Author.Needs.{needs}
 use Rattle.file.specs.Report.{headLine}
-use Rattle.run.proofs.Texts.{then-word}
+use Rattle.run.proofs.Texts.{then-word, then-two}
 use Rattle.run.proofs.lines.head_line.Statement.{statement}
 use Rattle.run.proofs.lines.head_line.Tie as tie
 
@@ -19,59 +19,34 @@ cast-with-figure c = search needs
 with-figure-requires-2 : tie.Need-with-figure-requires-2
 with-figure-requires-2 c κs = search needs
 
+with-value-requires : tie.Need-with-value-requires
+with-value-requires c κs = search needs
+
+with-status-requires : tie.Need-with-status-requires
+with-status-requires c κs = search needs
+
+with-decision-requires : tie.Need-with-decision-requires
+with-decision-requires c κs = search needs
+
 slice-aggregate-with-word : tie.Need-slice-aggregate-with-word
 slice-aggregate-with-word c = search needs
 
 with-word-requires : tie.Need-with-word-requires
 with-word-requires c κs = search needs
 
-with-value-requires : tie.Need-with-value-requires
-with-value-requires c κs = search needs
-
-slice-aggregate-with-word-2 : tie.Need-slice-aggregate-with-word-2
-slice-aggregate-with-word-2 c = search needs
-
-with-word-requires-2 : tie.Need-with-word-requires-2
-with-word-requires-2 c κs = search needs
-
-with-status-requires : tie.Need-with-status-requires
-with-status-requires c κs = search needs
-
-slice-aggregate-with-word-3 : tie.Need-slice-aggregate-with-word-3
-slice-aggregate-with-word-3 c = search needs
-
-with-word-requires-3 : tie.Need-with-word-requires-3
-with-word-requires-3 c κs = search needs
-
-with-decision-requires : tie.Need-with-decision-requires
-with-decision-requires c κs = search needs
-
-slice-aggregate-with-word-4 : tie.Need-slice-aggregate-with-word-4
-slice-aggregate-with-word-4 c = search needs
-
-with-word-requires-4 : tie.Need-with-word-requires-4
-with-word-requires-4 c κs = search needs
-
 returns : tie.Need-returns
 unfolding headLine
 returns c =
-    let held = c .before .before .before .before .before .before .before .before .before .before .before .before .before
-    .before .before .before .pre in (
-      then-word _ _ _ _ _ held (then-word _ _ _ _ _ held (then-word _ _ _ _ _ held
-          (then-word _ _ _ _ _ held (then-word _ _ _ _ _ held (then-word _ _ _ _ _ held
-          (then-word _ _ _ _ _ held (then-word _ _ _ _ _ held
-          (c .before .before .before .before .before .before .before .before .before .before .before
-          .before .before .before .with-figure .ensures .0)
-          (c .before .before .before .before .before .before .before .before .before .before .before
-          .with-figure2 .ensures .0))
-          (c .before .before .before .before .before .before .before .before .before .with-word .ensures .0))
-          (c .before .before .before .before .before .before .before .before .with-value .ensures .0))
-          (c .before .before .before .before .before .before .with-word2 .ensures .0))
-          (c .before .before .before .before .before .with-status .ensures .0))
-          (c .before .before .before .with-word3 .ensures .0))
+    let held = c .before .before .before .before .before .before .before .before .before .before .pre in (
+      then-word _ _ _ _ _ held (then-two _ _ _ _ _ _ held (then-two _ _ _ _ _ _ held (then-two _ _ _ _ _ _ held
+          (then-word _ _ _ _ _ held
+          (c .before .before .before .before .before .before .before .before .with-figure .ensures .0)
+          (c .before .before .before .before .before .with-figure2 .ensures .0))
+          (c .before .before .before .before .with-value .ensures .0))
+          (c .before .before .before .with-status .ensures .0))
           (c .before .before .with-decision .ensures .0))
-          (c .with-word4 .ensures .0),
-      c .with-word4 .ensures .1,
+          (c .with-word .ensures .0),
+      c .with-word .ensures .1,
     )
 
 pub head-line-spec : {M : Type 1} → statement M
@@ -83,15 +58,9 @@ head-line-spec =
     slice-aggregate-with-figure-2
     cast-with-figure
     with-figure-requires-2
+    with-value-requires
+    with-status-requires
+    with-decision-requires
     slice-aggregate-with-word
     with-word-requires
-    with-value-requires
-    slice-aggregate-with-word-2
-    with-word-requires-2
-    with-status-requires
-    slice-aggregate-with-word-3
-    with-word-requires-3
-    with-decision-requires
-    slice-aggregate-with-word-4
-    with-word-requires-4
     returns)

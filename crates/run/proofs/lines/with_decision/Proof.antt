@@ -1,7 +1,8 @@
 use mathlib.Core.Path.{sym, ap, _∙_}
+use mathlib.Core.List.{_++_}
 use borrow.Author.Needs.{needs}
 use Rattle.rules.specs.declared.Decision.{Decision}
-use Rattle.file.specs.Report.{decisionWord}
+use Rattle.file.specs.Report.{word, decisionWord}
 use Rattle.run.specs.Writing.{withWord}
 use Rattle.run.proofs.lines.with_decision.Statement.{statement}
 use Rattle.run.proofs.lines.with_decision.Tie as tie
@@ -36,21 +37,21 @@ with-word-requires-3 c κs = search needs
 returns : tie.Need-returns
 returns c = (
   c .with-word .ensures .0 ∙ sym (ap (λ (v : Decision). withWord (c .before .before .before .before .args .text)
-      (decisionWord v)) (c .before .before .enum-told .given .1)),
+      (word " decision " ++ decisionWord v)) (c .before .before .enum-told .given .1)),
   c .with-word .ensures .1,
 )
 
 returns-2 : tie.Need-returns-2
 returns-2 c = (
   c .with-word2 .ensures .0 ∙ sym (ap (λ (v : Decision). withWord (c .before .before .before .before .args .text)
-      (decisionWord v)) (c .before .before .enum-told2 .given .1)),
+      (word " decision " ++ decisionWord v)) (c .before .before .enum-told2 .given .1)),
   c .with-word2 .ensures .1,
 )
 
 returns-3 : tie.Need-returns-3
 returns-3 c = (
   c .with-word3 .ensures .0 ∙ sym (ap (λ (v : Decision). withWord (c .before .before .before .before .args .text)
-      (decisionWord v)) (c .before .before .enum-told3 .given .1)),
+      (word " decision " ++ decisionWord v)) (c .before .before .enum-told3 .given .1)),
   c .with-word3 .ensures .1,
 )
 

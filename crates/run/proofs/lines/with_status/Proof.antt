@@ -1,7 +1,8 @@
 use mathlib.Core.Path.{sym, ap, _∙_}
+use mathlib.Core.List.{_++_}
 use borrow.Author.Needs.{needs}
 use Rattle.rules.specs.declared.Status.{Status}
-use Rattle.file.specs.Report.{statusWord}
+use Rattle.file.specs.Report.{word, statusWord}
 use Rattle.run.specs.Writing.{withWord}
 use Rattle.run.proofs.lines.with_status.Statement.{statement}
 use Rattle.run.proofs.lines.with_status.Tie as tie
@@ -27,14 +28,14 @@ with-word-requires-2 c κs = search needs
 returns : tie.Need-returns
 returns c = (
   c .with-word .ensures .0 ∙ sym (ap (λ (v : Status). withWord (c .before .before .before .before .args .text)
-      (statusWord v)) (c .before .before .enum-told .given .1)),
+      (word " status " ++ statusWord v)) (c .before .before .enum-told .given .1)),
   c .with-word .ensures .1,
 )
 
 returns-2 : tie.Need-returns-2
 returns-2 c = (
   c .with-word2 .ensures .0 ∙ sym (ap (λ (v : Status). withWord (c .before .before .before .before .args .text)
-      (statusWord v)) (c .before .before .enum-told2 .given .1)),
+      (word " status " ++ statusWord v)) (c .before .before .enum-told2 .given .1)),
   c .with-word2 .ensures .1,
 )
 
