@@ -26,7 +26,7 @@ use denote.Index.{opens-slice, closes-slice}
 use denote.Steps.{heard, peeks}
 use denote.Triple.Entry.{Args}
 use denote.Triple.Clauses.{Ended, Lasts, lasts}
-use denote.Triple.Walked.{says}
+use denote.Triple.Walked.{says, needs}
 use Rattle.rules.specs.declared.Head.{Head}
 use Rattle.run.proofs.Walking.{R, Table, table-closed}
 
@@ -44,22 +44,26 @@ module _ {M : Type 1} {𝓤 : URA M} {H : Heap 𝓤} {A : Atoms 𝓤} {K : Type 
 
 -- ---- a promise of two clauses
 
--- where a walk ends, each is shown
+-- each is shown, where a walk ends or a function is called
 module _ {M : Type 1} {𝓤 : URA M} {H : Heap 𝓤} {A : Atoms 𝓤} {K : Type 0} {W : Given 𝓤 H A} {Γ : List (Item 𝓤)} where
   pub says-both : K → {φ ψ : Type 0} {P : SProp 𝓤} → φ → ψ → Step K W Γ (prop P) Γ (prop (sep 𝓤 P (sep 𝓤 (fact 𝓤 φ) (fact 𝓤 ψ))))
   says-both t {φ} {ψ} {P} x y = step (λ s. record { prf = via 𝓤 (sep 𝓤 (sep 𝓤 P (fact 𝓤 φ)) (fact 𝓤 ψ)) ((says t y $ says t x $ s) .prf) (assoc∗ 𝓤 P (fact 𝓤 φ) (fact 𝓤 ψ)) })
 
--- where such a function is called, both are heard as one
-module _ {M : Type 1} (𝓤 : URA M) (H : Heap 𝓤) (A : Atoms 𝓤) (W : Given 𝓤 H A) where
+-- what a caller was asked for, and what a callee says: both are heard as one
+module _ {M : Type 1} (𝓤 : URA M) where
   both : (φ ψ : Type 0) → ent 𝓤 (sep 𝓤 (fact 𝓤 φ) (fact 𝓤 ψ)) (fact 𝓤 (φ × ψ))
   both φ ψ = fact-use 𝓤 φ (fst∗ 𝓤 (fact 𝓤 φ) (fact 𝓤 ψ)) (λ x. via 𝓤 (fact 𝓤 ψ) (snd∗ 𝓤 (fact 𝓤 φ) (fact 𝓤 ψ)) (fact-mono 𝓤 ψ (φ × ψ) (λ y. (x, y))))
 
+  pub needs-both : (φ ψ : Type 0) (P : SProp 𝓤) {Q : SProp 𝓤} → (φ × ψ → ent 𝓤 P Q) → ent 𝓤 (sep 𝓤 P (sep 𝓤 (fact 𝓤 φ) (fact 𝓤 ψ))) Q
+  needs-both φ ψ P h = via 𝓤 (sep 𝓤 P (fact 𝓤 (φ × ψ))) (monoR 𝓤 P (both φ ψ)) (needs 𝓤 (φ × ψ) P h)
+
+module _ {M : Type 1} (𝓤 : URA M) (H : Heap 𝓤) (A : Atoms 𝓤) (W : Given 𝓤 H A) where
   both-heard : {X Y : Type 0} (P : X → SProp 𝓤) (Q : Y → SProp 𝓤) (φ ψ : X → Y → Type 0)
       → ent 𝓤 (H .⇛ (ex 𝓤 (λ (r : X). sep 𝓤 (P r) (ex 𝓤 (λ (ws : Y). sep 𝓤 (Q ws) (sep 𝓤 (fact 𝓤 (φ r ws)) (fact 𝓤 (ψ r ws))))))))
       (H .⇛ (ex 𝓤 (λ (r : X). sep 𝓤 (P r) (ex 𝓤 (λ (ws : Y). sep 𝓤 (Q ws) (fact 𝓤 (φ r ws × ψ r ws)))))))
   both-heard P Q φ ψ =
       W .laws .⇛-mono _ _
-      (exE 𝓤 _ (λ r. via 𝓤 _ (monoR 𝓤 (P r) (exE 𝓤 _ (λ ws. via 𝓤 _ (monoR 𝓤 (Q ws) (both (φ r ws) (ψ r ws))) (exI 𝓤 (λ ws. sep 𝓤 (Q ws) (fact 𝓤 (φ r ws × ψ r ws))) ws))))
+      (exE 𝓤 _ (λ r. via 𝓤 _ (monoR 𝓤 (P r) (exE 𝓤 _ (λ ws. via 𝓤 _ (monoR 𝓤 (Q ws) (both 𝓤 (φ r ws) (ψ r ws))) (exI 𝓤 (λ ws. sep 𝓤 (Q ws) (fact 𝓤 (φ r ws × ψ r ws))) ws))))
       (exI 𝓤 (λ r. sep 𝓤 (P r) (ex 𝓤 (λ ws. sep 𝓤 (Q ws) (fact 𝓤 (φ r ws × ψ r ws))))) r)))
 
 module _ {M : Type 1} {𝓤 : URA M} {H : Heap 𝓤} {A : Atoms 𝓤} {K : Type 0} {W : Given 𝓤 H A} {Γ : List (Item 𝓤)} {G : Goal 𝓤 H} where

@@ -32,7 +32,8 @@ pub(crate) fn outcome(file: &[u8], plan: Plan, last: Survey) -> Outcome
 
 // "A round is good if its lost ballots, of n × n, are at most" the bound.
 fn good(file: &[u8], plan: Plan, most: usize) -> usize
-    requires { ⌜ Small plan × (most ≡ boundOf (plan .n) (plan .needed)) ⌝ }
+    requires { ⌜ Small plan ⌝ }
+    requires { ⌜ most ≡ boundOf (plan .n) (plan .needed) ⌝ }
     ensures { λ r. ⌜ r ≡ goodIn (now (file .entry)) plan (plan .rounds) ⌝ }
 {
     let n = plan.n;
@@ -63,7 +64,8 @@ fn lost_in(rows: &[u8], n: usize) -> usize
 
 // "ceil(n/2) × (n - k) + k - 2"; 0 where there are no heads.
 fn bound(n: usize, k: usize) -> usize
-    requires { ⌜ (n ≤ headsMost) × (k ≤ n) ⌝ }
+    requires { ⌜ n ≤ headsMost ⌝ }
+    requires { ⌜ k ≤ n ⌝ }
     ensures { λ r. ⌜ r ≡ boundOf n k ⌝ }
 {
     let sum = (n + 1) / 2 * (n - k) + k;

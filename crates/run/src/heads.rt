@@ -36,7 +36,8 @@ pub struct Survey {
 
 // Head i as it starts: its proposal is a byte of section 1's part.
 pub(crate) fn started(file: &[u8], n: usize, i: usize) -> Head
-    requires { ⌜ (n ≤ headsMost) × (i < n) ⌝ }
+    requires { ⌜ n ≤ headsMost ⌝ }
+    requires { ⌜ i < n ⌝ }
     ensures { λ r. ⌜ r ≡ startIn (now (file .entry)) n i ⌝ }
 {
     let proposals = part(file, COUNT_BYTES, n);
@@ -56,7 +57,8 @@ pub(crate) fn no_survey() -> Survey
 
 // The survey with head i in it.
 pub(crate) fn note(before: Survey, i: usize, head: Head) -> Survey
-    requires { ⌜ (i < headsMost) × (before .decided ≤ i) ⌝ }
+    requires { ⌜ i < headsMost ⌝ }
+    requires { ⌜ before .decided ≤ i ⌝ }
     ensures { λ r. ⌜ r ≡ noted before i head ⌝ }
 {
     let status = head.status;
@@ -78,7 +80,8 @@ pub(crate) fn ticked(
     coins: &[u8],
     i: usize,
 ) -> Head
-    requires { ⌜ (n ≤ headsMost) × (i < n) ⌝ }
+    requires { ⌜ n ≤ headsMost ⌝ }
+    requires { ⌜ i < n ⌝ }
     ensures { λ r. ⌜ r ≡ tickedBy before n (now (rows .entry)) (now (coins .entry)) i head ⌝ }
 {
     let coin = byte_at(coins, i);

@@ -35,7 +35,8 @@ pub(crate) fn plan_of(file: &[u8], room: usize) -> Plan
 
 // "the loss rows of one round are a part from the middle of the file": of section 3's part.
 pub(crate) fn rows_of<'a>(file: &'a [u8], plan: Plan, r: usize) -> &'a [u8]
-    requires { ⌜ Small plan × (r < plan .rounds) ⌝ }
+    requires { ⌜ Small plan ⌝ }
+    requires { ⌜ r < plan .rounds ⌝ }
     ensures { λ s. ⌜ now s ≡ rowsIn (now (file .entry)) plan r ⌝ }
 {
     let n = plan.n;
@@ -46,7 +47,8 @@ pub(crate) fn rows_of<'a>(file: &'a [u8], plan: Plan, r: usize) -> &'a [u8]
 
 // The coins of one round: a part of section 4's.
 pub(crate) fn coins_of<'a>(file: &'a [u8], plan: Plan, r: usize) -> &'a [u8]
-    requires { ⌜ Small plan × (r < plan .rounds) ⌝ }
+    requires { ⌜ Small plan ⌝ }
+    requires { ⌜ r < plan .rounds ⌝ }
     ensures { λ s. ⌜ now s ≡ coinsIn (now (file .entry)) plan r ⌝ }
 {
     let n = plan.n;
@@ -57,8 +59,10 @@ pub(crate) fn coins_of<'a>(file: &'a [u8], plan: Plan, r: usize) -> &'a [u8]
 
 // Section 2, of a plan that has section 1.
 fn after_proposals(file: &[u8], room: usize, at: usize, known: Plan) -> Plan
-    requires { ⌜ (at ≤ secondMost) × (known .n ≤ headsMost) ⌝ }
-    requires { ⌜ (known .number ≡ 0) × (known .place ≡ 0) ⌝ }
+    requires { ⌜ at ≤ secondMost ⌝ }
+    requires { ⌜ known .n ≤ headsMost ⌝ }
+    requires { ⌜ known .number ≡ 0 ⌝ }
+    requires { ⌜ known .place ≡ 0 ⌝ }
     ensures { λ r. ⌜ r ≡ afterProposals (now (file .entry)) room at (known .n) ⌝ }
 {
     let section = needed(file, at, known.n);
@@ -73,8 +77,10 @@ fn after_proposals(file: &[u8], room: usize, at: usize, known: Plan) -> Plan
 
 // Section 3, of a plan that has the two before it.
 fn after_needed(file: &[u8], room: usize, at: usize, known: Plan) -> Plan
-    requires { ⌜ (at ≤ thirdMost) × (known .n ≤ headsMost) ⌝ }
-    requires { ⌜ (known .number ≡ 0) × (known .place ≡ 0) ⌝ }
+    requires { ⌜ at ≤ thirdMost ⌝ }
+    requires { ⌜ known .n ≤ headsMost ⌝ }
+    requires { ⌜ known .number ≡ 0 ⌝ }
+    requires { ⌜ known .place ≡ 0 ⌝ }
     ensures { λ r. ⌜ r ≡ afterNeeded (now (file .entry)) room at (known .n) (known .needed) ⌝ }
 {
     let section = losses(file, at, known.n);
@@ -89,8 +95,11 @@ fn after_needed(file: &[u8], room: usize, at: usize, known: Plan) -> Plan
 
 // Section 4, of a plan that has the three before it.
 fn after_losses(file: &[u8], room: usize, at: usize, known: Plan) -> Plan
-    requires { ⌜ (at ≤ fourthMost) × (known .n ≤ headsMost) × (known .rounds ≤ roundsMost) ⌝ }
-    requires { ⌜ (known .number ≡ 0) × (known .place ≡ 0) ⌝ }
+    requires { ⌜ at ≤ fourthMost ⌝ }
+    requires { ⌜ known .n ≤ headsMost ⌝ }
+    requires { ⌜ known .rounds ≤ roundsMost ⌝ }
+    requires { ⌜ known .number ≡ 0 ⌝ }
+    requires { ⌜ known .place ≡ 0 ⌝ }
     ensures { λ r.
         ⌜ r ≡ afterLosses (now (file .entry)) room at
         (known .n) (known .needed) (known .rounds) (known .losses) ⌝ }

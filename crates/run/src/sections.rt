@@ -36,7 +36,8 @@ pub(crate) fn proposals(file: &[u8]) -> Section
 
 // "Count 1, then k, the heads needed: more than n/2, at most n."
 pub(crate) fn needed(file: &[u8], at: usize, n: usize) -> Section
-    requires { ⌜ (at ≤ fileMost) × (n ≤ headsMost) ⌝ }
+    requires { ⌜ at ≤ fileMost ⌝ }
+    requires { ⌜ n ≤ headsMost ⌝ }
     ensures { λ r. ⌜ r ≡ neededOf (now (file .entry)) at n ⌝ }
 {
     let count = count_at(file, at);
@@ -45,7 +46,8 @@ pub(crate) fn needed(file: &[u8], at: usize, n: usize) -> Section
 
 // "Count of rounds, 0 to 256; per round n rows of 4 bytes"
 pub(crate) fn losses(file: &[u8], at: usize, n: usize) -> Section
-    requires { ⌜ (at ≤ fileMost) × (n ≤ headsMost) ⌝ }
+    requires { ⌜ at ≤ fileMost ⌝ }
+    requires { ⌜ n ≤ headsMost ⌝ }
     ensures { λ r. ⌜ r ≡ lossesOf (now (file .entry)) at n ⌝ }
 {
     let rounds = count_at(file, at);
@@ -58,7 +60,8 @@ pub(crate) fn losses(file: &[u8], at: usize, n: usize) -> Section
 
 // "Count n times rounds, then that many coins (0 or 1)"
 pub(crate) fn coins(file: &[u8], at: usize, count: usize) -> Section
-    requires { ⌜ (at ≤ fileMost) × (count ≤ roundsMost * headsMost) ⌝ }
+    requires { ⌜ at ≤ fileMost ⌝ }
+    requires { ⌜ count ≤ roundsMost * headsMost ⌝ }
     ensures { λ r. ⌜ r ≡ coinsOf (now (file .entry)) at count ⌝ }
 {
     let read = count_at(file, at);
@@ -89,7 +92,8 @@ pub(crate) fn row_at(rows: &[u8], place: usize) -> u32
 
 // The section whose count stands at a place, its bytes not yet looked at.
 fn counted(file: &[u8], at: usize, breaks: bool, size: usize) -> Section
-    requires { ⌜ (at ≤ fileMost) × (size ≤ bodyMost) ⌝ }
+    requires { ⌜ at ≤ fileMost ⌝ }
+    requires { ⌜ size ≤ bodyMost ⌝ }
     ensures { λ r. ⌜ r ≡ countedOf (now (file .entry)) at breaks size ⌝ }
     ensures { λ r. ⌜ Near r ⌝ }
 {
@@ -133,7 +137,8 @@ fn checked_bytes(file: &[u8], section: Section, low: usize, high: usize) -> Sect
 
 // The section, unless a row of its body has a bit from n up.
 fn checked_rows(file: &[u8], section: Section, n: usize) -> Section
-    requires { ⌜ Near section × (n ≤ headsMost) ⌝ }
+    requires { ⌜ Near section ⌝ }
+    requires { ⌜ n ≤ headsMost ⌝ }
     ensures { λ r. ⌜ r ≡ checked (now (file .entry)) setBytes (notRow n) section ⌝ }
 {
     let Section::Body { start, length } = section else {
@@ -146,7 +151,9 @@ fn checked_rows(file: &[u8], section: Section, n: usize) -> Section
 
 // The section, unless one of its body's pieces, each of so many bytes, breaks its rule.
 fn unless_broken(start: usize, length: usize, broken: usize, pieces: usize, width: usize) -> Section
-    requires { ⌜ (start ≤ fileMost + countBytes) × (broken ≤ bodyMost) × (width ≤ setBytes) ⌝ }
+    requires { ⌜ start ≤ fileMost + countBytes ⌝ }
+    requires { ⌜ broken ≤ bodyMost ⌝ }
+    requires { ⌜ width ≤ setBytes ⌝ }
     ensures { λ r. ⌜ r ≡ unlessBroken start length broken pieces width ⌝ }
 {
     if broken < pieces {
@@ -180,7 +187,8 @@ fn is_outside(byte: u8, low: usize, high: usize) -> bool
 
 // The first row with a bit from n up; where there is none, the number of rows.
 fn first_not_row(rows: &[u8], n: usize) -> usize
-    requires { ⌜ (length (now rows) ≤ bodyMost) × (n ≤ headsMost) ⌝ }
+    requires { ⌜ length (now rows) ≤ bodyMost ⌝ }
+    requires { ⌜ n ≤ headsMost ⌝ }
     ensures { λ r.
         ⌜ r ≡ first (length (now (rows .entry)) / setBytes) (λ i. notRow n (now (rows .entry)) (i * setBytes)) ⌝ }
 {

@@ -53,7 +53,8 @@ pub fn run_file(file: &[u8]) -> Benched
 }
 
 fn start_all(table: &mut [Head], file: &[u8], n: usize)
-    requires { ⌜ (n ≤ length (now table)) × (n ≤ headsMost) ⌝ }
+    requires { ⌜ n ≤ length (now table) ⌝ }
+    requires { ⌜ n ≤ headsMost ⌝ }
     ensures { λ _. ⌜ now (table .exit) ≡ startsIn (now (file .entry)) n (now (table .entry)) ⌝ }
 {
     let mut i = 0;
@@ -65,7 +66,8 @@ fn start_all(table: &mut [Head], file: &[u8], n: usize)
 }
 
 fn run_rounds(table: &mut [Head], file: &[u8], plan: Plan)
-    requires { ⌜ (plan .n ≤ length (now table)) × Small plan ⌝ }
+    requires { ⌜ plan .n ≤ length (now table) ⌝ }
+    requires { ⌜ Small plan ⌝ }
     ensures { λ _. ⌜ now (table .exit) ≡ roundsIn (now (file .entry)) plan (plan .rounds) (now (table .entry)) ⌝ }
 {
     let n = plan.n;
@@ -81,7 +83,8 @@ fn run_rounds(table: &mut [Head], file: &[u8], plan: Plan)
 
 // "A round: all n ballots are formed first, then each head in number order is ticked".
 fn round(table: &mut [Head], n: usize, rows: &[u8], coins: &[u8])
-    requires { ⌜ (n ≤ length (now table)) × (n ≤ headsMost) ⌝ }
+    requires { ⌜ n ≤ length (now table) ⌝ }
+    requires { ⌜ n ≤ headsMost ⌝ }
     ensures { λ _. ⌜ now (table .exit) ≡ roundIn n (now (rows .entry)) (now (coins .entry)) (now (table .entry)) ⌝ }
 {
     let before = survey(table, n);
@@ -96,7 +99,8 @@ fn round(table: &mut [Head], n: usize, rows: &[u8], coins: &[u8])
 
 // What the first n heads show: their ballots, and how many are decided.
 fn survey(table: &[Head], n: usize) -> Survey
-    requires { ⌜ (n ≤ length (now table)) × (n ≤ headsMost) ⌝ }
+    requires { ⌜ n ≤ length (now table) ⌝ }
+    requires { ⌜ n ≤ headsMost ⌝ }
     ensures { λ r. ⌜ r ≡ surveyOf n (now (table .entry)) ⌝ }
 {
     let mut shown = no_survey();

@@ -11,10 +11,10 @@ use Rattle.run.proofs.plans.after_losses.Statement.{statement}
 use Rattle.run.proofs.plans.after_losses.Tie as tie
 
 mul-coins : tie.Need-mul-coins
-mul-coins c = record { fits = omega (arith, mul-le-mul (c .before .pre .0 .2) (c .before .pre .0 .1)) }
+mul-coins c = record { fits = omega (arith, mul-le-mul (c .before .pre .1 .1 .0) (c .before .pre .1 .0)) }
 
 coins-requires : tie.Need-coins-requires
-coins-requires c κs = (omega (arith, c .before .pre .0 .0), omega (arith, mul-le-mul (c .before .pre .0 .2) (c .before .pre .0 .1)))
+coins-requires c κs = (omega (arith, c .before .pre .0), omega (arith, mul-le-mul (c .before .pre .1 .1 .0) (c .before .pre .1 .0)))
 
 enum-known-section : tie.Need-enum-known-section
 enum-known-section c = search needs
@@ -30,7 +30,7 @@ unfolding afterLosses
 returns c = refused-section _ _ _ _ _ _ _ (c .begun .ensures) (c .before .enum-told .given .1) (c .before .before .before .coins .ensures)
 
 add-closed : tie.Need-add-closed
-add-closed c = let a = coins-body (c .before .before .before .before .before .args .file .now) _ _ _ _ (sym (c .before .before .before .coins .ensures) ∙ c .before .section .given .1) in record { fits = omega (arith, a .starts, a .sized, c .before .before .before .before .before .pre .0 .0, mul-le-mul (c .before .before .before .before .before .pre .0 .2) (c .before .before .before .before .before .pre .0 .1)) }
+add-closed c = let a = coins-body (c .before .before .before .before .before .args .file .now) _ _ _ _ (sym (c .before .before .before .coins .ensures) ∙ c .before .section .given .1) in record { fits = omega (arith, a .starts, a .sized, c .before .before .before .before .before .pre .0, mul-le-mul (c .before .before .before .before .before .pre .1 .1 .0) (c .before .before .before .before .before .pre .1 .0)) }
 
 closed-requires : tie.Need-closed-requires
 closed-requires c κs = search needs
@@ -43,7 +43,7 @@ returns-2 c = let file = c .before .before .before .before .before .before .args
     let size = c .before .before .section .given .0 .1 .0 in
     c .closed .ensures
     ∙ ap₂ (λ (number place : ℕ). closedOf (length file) (c .before .before .before .before .before .before .args .room) (start + size) (record { number = number; place = place; n = known .n; needed = known .needed; rounds = known .rounds; losses = known .losses; coins = start }))
-    (c .before .before .before .before .before .before .pre .1 .0) (c .before .before .before .before .before .before .pre .1 .1)
+    (c .before .before .before .before .before .before .pre .1 .1 .1 .0) (c .before .before .before .before .before .before .pre .1 .1 .1 .1)
     ∙ next-section _ _ _ _ _ (c .before .before .section .given .1) (c .before .before .before .before .coins .ensures)
 
 pub after-losses-spec : {M : Type 1} → statement M

@@ -29,10 +29,10 @@ count-at-requires : tie.Need-count-at-requires
 count-at-requires c κs = search needs
 
 add-after-losses : tie.Need-add-after-losses
-add-after-losses c = let a = losses-body (c .before .before .before .before .before .before .args .file .now) _ _ _ _ (sym (c .before .before .before .before .losses .ensures) ∙ c .before .before .section .given .1) in record { fits = omega (arith, a .starts, a .sized, c .before .before .before .before .before .before .pre .0 .0, mul-le-mul (a .rounds) (c .before .before .before .before .before .before .pre .0 .1)) }
+add-after-losses c = let a = losses-body (c .before .before .before .before .before .before .args .file .now) _ _ _ _ (sym (c .before .before .before .before .losses .ensures) ∙ c .before .before .section .given .1) in record { fits = omega (arith, a .starts, a .sized, c .before .before .before .before .before .before .pre .0, mul-le-mul (a .rounds) (c .before .before .before .before .before .before .pre .1 .0)) }
 
 after-losses-requires : tie.Need-after-losses-requires
-after-losses-requires c κs = let a = losses-body (c .before .before .before .before .before .before .args .file .now) _ _ _ _ (sym (c .before .before .before .before .losses .ensures) ∙ c .before .before .section .given .1) in ((omega (arith, a .starts, a .sized, c .before .before .before .before .before .before .pre .0 .0, mul-le-mul (a .rounds) (c .before .before .before .before .before .before .pre .0 .1)), c .before .before .before .before .before .before .pre .0 .1, omega (arith, a .rounds, c .count-at .ensures .0)), c .before .before .before .before .before .before .pre .1)
+after-losses-requires c κs = let a = losses-body (c .before .before .before .before .before .before .args .file .now) _ _ _ _ (sym (c .before .before .before .before .losses .ensures) ∙ c .before .before .section .given .1) in (omega (arith, a .starts, a .sized, c .before .before .before .before .before .before .pre .0, mul-le-mul (a .rounds) (c .before .before .before .before .before .before .pre .1 .0)), (c .before .before .before .before .before .before .pre .1 .0, (omega (arith, a .rounds, c .count-at .ensures .0), c .before .before .before .before .before .before .pre .1 .1)))
 
 returns-2 : tie.Need-returns-2
 unfolding afterNeeded

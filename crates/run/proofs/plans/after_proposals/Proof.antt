@@ -38,10 +38,10 @@ cast-plan : tie.Need-cast-plan
 cast-plan c = search needs
 
 add-after-needed : tie.Need-add-after-needed
-add-after-needed c = let a = needed-body (c .before .before .before .before .before .before .before .args .file .now) _ _ _ _ (sym (c .before .before .before .before .before .needed .ensures) ∙ c .before .before .before .section .given .1) in record { fits = omega (arith, a .starts, a .single, c .before .before .before .before .before .before .before .pre .0 .0) }
+add-after-needed c = let a = needed-body (c .before .before .before .before .before .before .before .args .file .now) _ _ _ _ (sym (c .before .before .before .before .before .needed .ensures) ∙ c .before .before .before .section .given .1) in record { fits = omega (arith, a .starts, a .single, c .before .before .before .before .before .before .before .pre .0) }
 
 after-needed-requires : tie.Need-after-needed-requires
-after-needed-requires c κs = let a = needed-body (c .before .before .before .before .before .before .before .args .file .now) _ _ _ _ (sym (c .before .before .before .before .before .needed .ensures) ∙ c .before .before .before .section .given .1) in ((omega (arith, a .starts, a .single, c .before .before .before .before .before .before .before .pre .0 .0), c .before .before .before .before .before .before .before .pre .0 .1), c .before .before .before .before .before .before .before .pre .1)
+after-needed-requires c κs = let a = needed-body (c .before .before .before .before .before .before .before .args .file .now) _ _ _ _ (sym (c .before .before .before .before .before .needed .ensures) ∙ c .before .before .before .section .given .1) in (omega (arith, a .starts, a .single, c .before .before .before .before .before .before .before .pre .0), (c .before .before .before .before .before .before .before .pre .1 .0, c .before .before .before .before .before .before .before .pre .1 .1))
 
 returns-2 : tie.Need-returns-2
 unfolding afterProposals

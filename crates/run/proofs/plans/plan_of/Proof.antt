@@ -31,7 +31,7 @@ add-after-proposals c = let a = proposals-body (c .before .before .before .befor
 after-proposals-requires : tie.Need-after-proposals-requires
 after-proposals-requires c κs = let a = proposals-body (c .before .before .before .before .before .before .args .file .now) _ _ (sym (c .before .before .before .before .proposals .ensures) ∙ c .before .section .given .1) in
     let zeros = body-begins _ _ _ _ (c .before .before .before .begun .ensures) (c .before .section .given .1) in
-    ((omega (arith, a .starts, a .heads), omega (arith, a .heads)), (ap (λ (p : Plan). p .number) zeros, ap (λ (p : Plan). p .place) zeros))
+    (omega (arith, a .starts, a .heads), (omega (arith, a .heads), (ap (λ (p : Plan). p .number) zeros, ap (λ (p : Plan). p .place) zeros)))
 
 returns-2 : tie.Need-returns-2
 unfolding planOf afterProposals afterNeeded afterLosses closedOf

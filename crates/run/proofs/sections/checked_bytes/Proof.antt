@@ -25,7 +25,7 @@ first-outside-requires : tie.Need-first-outside-requires
 first-outside-requires c κs = search needs
 
 unless-broken-requires : tie.Need-unless-broken-requires
-unless-broken-requires c κs = let near = near-short _ _ _ _ _ (c .before .before .before .section .given .1) (c .before .before .before .before .before .before .pre) (c .before .part .ensures) in (near .0, found-small _ _ _ (c .first-outside .ensures) (near .1), lit≤ tt)
+unless-broken-requires c κs = let near = near-short _ _ _ _ _ (c .before .before .before .section .given .1) (c .before .before .before .before .before .before .pre) (c .before .part .ensures) in (near .0, (found-small _ _ _ (c .first-outside .ensures) (near .1), lit≤ tt))
 
 returns-2 : tie.Need-returns-2
 returns-2 c = let body = c .before .before .part .result .now in

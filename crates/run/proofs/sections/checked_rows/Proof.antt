@@ -21,7 +21,7 @@ first-not-row-requires : tie.Need-first-not-row-requires
 first-not-row-requires c κs = (near-short _ _ _ _ _ (c .before .before .section .given .1) (c .before .before .before .before .before .pre .0) (c .part .ensures) .1, c .before .before .before .before .before .pre .1)
 
 unless-broken-requires : tie.Need-unless-broken-requires
-unless-broken-requires c κs = let near = near-short _ _ _ _ _ (c .before .before .before .section .given .1) (c .before .before .before .before .before .before .pre .0) (c .before .part .ensures) in (near .0, found-small _ _ _ (c .first-not-row .ensures) (omega (arith, near .1)), lit≤ tt)
+unless-broken-requires c κs = let near = near-short _ _ _ _ _ (c .before .before .before .section .given .1) (c .before .before .before .before .before .before .pre .0) (c .before .part .ensures) in (near .0, (found-small _ _ _ (c .first-not-row .ensures) (omega (arith, near .1)), lit≤ tt))
 
 returns-2 : tie.Need-returns-2
 returns-2 c = checked-body _ _ _ _ _ _ 4 _ _ (c .before .before .before .before .section .given .1) (c .before .before .part .ensures) (c .before .first-not-row .ensures) (c .unless-broken .ensures)

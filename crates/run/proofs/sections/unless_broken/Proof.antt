@@ -6,10 +6,10 @@ use Rattle.run.proofs.sections.unless_broken.Statement.{statement}
 use Rattle.run.proofs.sections.unless_broken.Tie as tie
 
 mul-t7 : tie.Need-mul-t7
-mul-t7 c = omega (arith, mul-le-mul (c .before .pre .1) (c .before .pre .2))
+mul-t7 c = omega (arith, mul-le-mul (c .before .pre .1 .0) (c .before .pre .1 .1))
 
 add-t8 : tie.Need-add-t8
-add-t8 c = record { fits = omega (arith, c .before .pre .0, mul-le-mul (c .before .pre .1) (c .before .pre .2)) }
+add-t8 c = record { fits = omega (arith, c .before .pre .0, mul-le-mul (c .before .pre .1 .0) (c .before .pre .1 .1)) }
 
 returns : tie.Need-returns
 unfolding unlessBroken

@@ -191,7 +191,7 @@ module _ (counts : Counts) {M : Type 1} (𝓤 : URA M) (H : Heap 𝓤) (A : Atom
 
     goes-start : (ν : ℕ) (δ : GName) → ent 𝓤 (sep 𝓤 (sep 𝓤 (A .lft (ν ∷ []) fullShare) (sep 𝓤 (A .lft κ′ q′) (sem 𝓤 H A ftrue))) (sep 𝓤 (sem 𝓤 H A (Table (ν ∷ []) δ b o (length ys) ys)) (sem 𝓤 H A (Bytes κ′ fx)))) (StartAll 𝓤 H A mem run .pre (to-start ν δ))
     goes-start ν δ =
-        qed W ((‵ (flft (ν ∷ []) fullShare) ⊛ ‵ (flft κ′ q′) ⊛ ‵ ftrue) ∷ ‵ (Table (ν ∷ []) δ b o (length ys) ys) ∷ ‵ (Bytes κ′ fx) ∷ []) ∵ says ! (enough ys refl, small .heads) $ frame ! $
+        qed W ((‵ (flft (ν ∷ []) fullShare) ⊛ ‵ (flft κ′ q′) ⊛ ‵ ftrue) ∷ ‵ (Table (ν ∷ []) δ b o (length ys) ys) ∷ ‵ (Bytes κ′ fx) ∷ []) ∵ says-both ! (enough ys refl) (small .heads) $ frame ! $
         nothing ! $ count-owned ! (p .n) n-fits $ fjoin ! $ move ! (2 ∷ 0 ∷ []) $ fjoin ! $ move ! (1 ∷ 0 ∷ []) $ fjoin ! $ done !
 
     abbrev to-rounds : ℕ → GName → List Head → RunRounds 𝓤 H A mem run .Ghost
@@ -199,7 +199,7 @@ module _ (counts : Counts) {M : Type 1} (𝓤 : URA M) (H : Heap 𝓤) (A : Atom
 
     goes-rounds : (ν : ℕ) (δ : GName) (zs : List Head) → length zs ≡ length ys → ent 𝓤 (sep 𝓤 (sep 𝓤 (A .lft (ν ∷ []) fullShare) (sep 𝓤 (A .lft κ′ q′) (sem 𝓤 H A ftrue))) (sep 𝓤 (sem 𝓤 H A (Table (ν ∷ []) δ b o (length ys) zs)) (sem 𝓤 H A (Bytes κ′ fx)))) (RunRounds 𝓤 H A mem run .pre (to-rounds ν δ zs))
     goes-rounds ν δ zs len =
-        qed W ((‵ (flft (ν ∷ []) fullShare) ⊛ ‵ (flft κ′ q′) ⊛ ‵ ftrue) ∷ ‵ (Table (ν ∷ []) δ b o (length ys) zs) ∷ ‵ (Bytes κ′ fx) ∷ []) ∵ says ! (enough zs len, small) $ frame ! $
+        qed W ((‵ (flft (ν ∷ []) fullShare) ⊛ ‵ (flft κ′ q′) ⊛ ‵ ftrue) ∷ ‵ (Table (ν ∷ []) δ b o (length ys) zs) ∷ ‵ (Bytes κ′ fx) ∷ []) ∵ says-both ! (enough zs len) small $ frame ! $
         nothing ! $ plan-owned ! p _ is-plan $ fjoin ! $ move ! (2 ∷ 0 ∷ []) $ fjoin ! $ move ! (1 ∷ 0 ∷ []) $ fjoin ! $ done !
 
     abbrev to-survey : ℕ → GName → List Head → SurveyAll 𝓤 H A mem run .Ghost
@@ -207,7 +207,7 @@ module _ (counts : Counts) {M : Type 1} (𝓤 : URA M) (H : Heap 𝓤) (A : Atom
 
     goes-survey : (ν : ℕ) (δ : GName) (zs : List Head) → length zs ≡ length ys → ent 𝓤 (sep 𝓤 (A .lft (ν ∷ []) fullShare) (sem 𝓤 H A (Shown ν δ b o (length ys) zs))) (SurveyAll 𝓤 H A mem run .pre (to-survey ν δ zs))
     goes-survey ν δ zs len =
-        qed W (‵ (flft (ν ∷ []) fullShare) ∷ ‵ (Shown ν δ b o (length ys) zs) ∷ []) ∵ says ! (enough zs len, small .heads) $ nothing ! $ move ! (1 ∷ 0 ∷ []) $ join ! $ frame ! $
+        qed W (‵ (flft (ν ∷ []) fullShare) ∷ ‵ (Shown ν δ b o (length ys) zs) ∷ []) ∵ says-both ! (enough zs len) (small .heads) $ nothing ! $ move ! (1 ∷ 0 ∷ []) $ join ! $ frame ! $
         nothing ! $ count-owned ! (p .n) n-fits $ fjoin ! $ move ! (1 ∷ 0 ∷ []) $ fjoin ! $ done !
 
     -- ---- the call of `outcome`

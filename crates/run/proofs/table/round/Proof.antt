@@ -37,7 +37,7 @@ use denote.Triple.Spec.{Meets, tripleOf}
 use denote.Triple.Statement.{Contract, Triple}
 use denote.Triple.Call.{calls-at}
 use denote.Triple.Table.{entered, cited}
-use denote.Triple.Walked.{says, needs, Stays, stay-none, stay-slice, stay-none-slice, walkOf, goes-none, goes-slice, goes-none-slice, Walks, ends-at, walked, walk-meets}
+use denote.Triple.Walked.{says, Stays, stay-none, stay-slice, stay-none-slice, walkOf, goes-none, goes-slice, goes-none-slice, Walks, ends-at, walked, walk-meets}
 use denote.Exit.{yes}
 use Rattle.rules.specs.declared.Head.{Head}
 use Rattle.file.specs.Table.{headOf, roundIn}
@@ -50,7 +50,7 @@ use Rattle.run.proofs.heads.ticked.Symbol.{name as #ticked}
 use Rattle.run.proofs.heads.ticked.Met as ticked-thm
 use denote.Memory.{pointee}
 use Rattle.run.proofs.Surveyed.{round-is}
-use Rattle.run.proofs.Calling.{Shown, table-shown, table-seen}
+use Rattle.run.proofs.Calling.{Shown, table-shown, table-seen, says-both, needs-both}
 use Rattle.run.proofs.table.survey as survey
 use Rattle.run.proofs.table.survey.Symbol as survey-def
 use Rattle.run.proofs.table.survey.Symbol.{name as #survey}
@@ -122,7 +122,7 @@ module _ {M : Type 1} (𝓤 : URA M) (H : Heap 𝓤) (A : Atoms 𝓤) (W : Given
 
   goes-to-survey : (ν : ℕ) (δ : GName) → ent 𝓤 (sep 𝓤 (A .lft (ν ∷ []) fullShare) (sem 𝓤 H A (Shown ν δ b o (length ys) ys))) (Surveys 𝓤 H A mem run .pre (to-survey ν δ))
   goes-to-survey ν δ =
-      qed W (‵ (flft (ν ∷ []) fullShare) ∷ ‵ (Shown ν δ b o (length ys) ys) ∷ []) ∵ says ! (enough, few) $ nothing ! $ move ! (1 ∷ 0 ∷ []) $ join ! $ frame ! $
+      qed W (‵ (flft (ν ∷ []) fullShare) ∷ ‵ (Shown ν δ b o (length ys) ys) ∷ []) ∵ says-both ! enough few $ nothing ! $ move ! (1 ∷ 0 ∷ []) $ join ! $ frame ! $
       nothing ! $ count-owned ! n n-fits $ fjoin ! $ move ! (1 ∷ 0 ∷ []) $ fjoin ! $ done !
 
   module _ (𝓣 : Tables 𝓤 H) (known-survey : Triple 𝓤 (𝓣 .C #survey) (Surveys 𝓤 H A mem run)) (known-ticked : Triple 𝓤 (𝓣 .C #ticked) (Ticked 𝓤 H A mem run)) where
@@ -166,7 +166,7 @@ module _ {M : Type 1} (𝓤 : URA M) (H : Heap 𝓤) (A : Atoms 𝓤) (W : Given
 
         goes-to-ticked : (i : ℕ) (h : Head) → Is R h (mach h ∷ []) → i < 2 ^ 64 → i < n → ent 𝓤 (⋆ 𝓤 H A Needed) (Ticked 𝓤 H A mem run .pre (to-ticked i h))
         goes-to-ticked i h is i-fits lt =
-            qed W Needed ∵ says ! (few, lt) $ nothing ! $ move ! (2 ∷ 0 ∷ []) $ join ! $ move ! (1 ∷ 0 ∷ []) $ join ! $ frame ! $
+            qed W Needed ∵ says-both ! few lt $ nothing ! $ move ! (2 ∷ 0 ∷ []) $ join ! $ move ! (1 ∷ 0 ∷ []) $ join ! $ frame ! $
             nothing ! $ count-owned ! i i-fits $ fjoin ! $ move ! (2 ∷ 0 ∷ []) $ fjoin ! $ move ! (1 ∷ 0 ∷ []) $ fjoin ! $ count-owned ! n n-fits $ fjoin ! $ survey-owned ! before _ is-before $ fjoin ! $ head-owned ! h _ is $ fjoin ! $ done !
 
         -- the invariant: the open borrow, with the first i heads ticked; the tokens of rows and coins and what these own; and the locals
@@ -285,7 +285,7 @@ module _ {M : Type 1} (𝓤 : URA M) (H : Heap 𝓤) (A : Atoms 𝓤) (W : Given
   round-walks = walked 𝓤 H A round.ended stayed (round.clauses 𝓤 H A mem run) (WpFn 𝓤 H (𝓣 .C) (𝓣 .Λ) code.function)
       (λ κs. (slice-vals, (uint-vals w64, (slice-vals, (slice-vals, tt)))))
       (λ κs. (mut-slice-tells (named 0) (κs .0) R, (uint-tells w64, (shr-slice-tells (named 1) (κs .1 .0) u8, (shr-slice-tells (named 2) (κs .1 .1 .0) u8, tt)))))
-      (λ κs qs bounds a g are. needs 𝓤 ((a .1 .0 ≤ length (a .0 .now)) × (a .1 .0 ≤ 32)) _ (λ fit.
+      (λ κs qs bounds a g are. needs-both 𝓤 (a .1 .0 ≤ length (a .0 .now)) (a .1 .0 ≤ 32) _ (λ fit.
       walk 𝓤 H A W mem run (κs .0) (κs .1 .0) (κs .1 .1 .0) (qs .0) (qs .1 .0) (qs .1 .1 .0) (a .0 .ptr .0) (a .0 .ptr .1) (a .0 .name) (a .0 .now) (a .1 .0) (a .1 .1 .0) (a .1 .1 .1 .0)
       (are .0 .0 .1) (are .1 .0 .1) (are .1 .1 .0 .0 .1) (are .1 .1 .1 .0 .0 .1) (fit .0) (fit .1) 𝓣 known-survey known-ticked))
 

@@ -38,13 +38,13 @@ use denote.Triple.Spec.{Meets, tripleOf}
 use denote.Triple.Statement.{Contract, Triple}
 use denote.Triple.Call.{calls-at}
 use denote.Triple.Table.{entered, cited}
-use denote.Triple.Walked.{says, needs, Stays, stay-none, stay-slice, stay-none-slice, walkOf, goes-none, goes-slice, goes-none-slice, Walks, ends-at, walked, walk-meets}
+use denote.Triple.Walked.{says, Stays, stay-none, stay-slice, stay-none-slice, walkOf, goes-none, goes-slice, goes-none-slice, Walks, ends-at, walked, walk-meets}
 use denote.Exit.{yes}
 use Rattle.rules.specs.declared.Head.{Head}
 use Rattle.file.specs.declared.Plan.{Plan}
 use Rattle.file.specs.Table.{rowsIn, coinsIn, roundIn, roundsIn}
 use Rattle.run.specs.Small.{Small}
-use Rattle.run.proofs.Calling.{table-left, of-first}
+use Rattle.run.proofs.Calling.{table-left, of-first, says-both, needs-both}
 use Rattle.file.proofs.running.Placing.{rounds-length}
 use Rattle.run.proofs.Walking.{R, planRow, machP, plan-lawful, plan-tells, tableTy, bytesTy, planTy, bytesVal, Bytes, Table, count-owned, plan-owned, answered, bytes-copied, table-lent, table-back, Upto, Nearer, Nearer-wf, fits, next, nearer, next-fits, at-end, one-more, after}
 use Rattle.run.proofs.plans.rows_of as rows-of
@@ -144,7 +144,7 @@ module _ {M : Type 1} (𝓤 : URA M) (H : Heap 𝓤) (A : Atoms 𝓤) (W : Given
 
   goes-part : (j : ℕ) → j < p .rounds → ent 𝓤 (sep 𝓤 (A .lft κ′ q′) (sem 𝓤 H A (Bytes κ′ fx))) (RowsOf 𝓤 H A mem run .pre (to-part j))
   goes-part j lt =
-      qed W (‵ (flft κ′ q′) ∷ ‵ (Bytes κ′ fx) ∷ []) ∵ says ! (small, lt) $ nothing ! $ move ! (1 ∷ 0 ∷ []) $ join ! $ frame ! $
+      qed W (‵ (flft κ′ q′) ∷ ‵ (Bytes κ′ fx) ∷ []) ∵ says-both ! small lt $ nothing ! $ move ! (1 ∷ 0 ∷ []) $ join ! $ frame ! $
       nothing ! $ count-owned ! j (omega (arith, lt, small .rounds)) $ fjoin ! $ plan-owned ! p _ is-plan $ fjoin ! $ move ! (1 ∷ 0 ∷ []) $ fjoin ! $ done !
 
   -- ---- the call of `round`, to which the table is lent for the lifetime ν, under the name δ. The rows y and the coins z have each one half of the file's token
@@ -157,7 +157,7 @@ module _ {M : Type 1} (𝓤 : URA M) (H : Heap 𝓤) (A : Atoms 𝓤) (W : Given
 
   goes-round : (j ν : ℕ) (δ : GName) (y z : RefT (List ℕ)) → ent 𝓤 (⋆ 𝓤 H A (Lent ν ∷ ‵ (Table (ν ∷ []) δ b o (length ys) (L j)) ∷ (‵ (Bytes κ′ y) ⊛ ‵ (Bytes κ′ z)) ∷ [])) (Round 𝓤 H A mem run .pre (to-round j ν δ y z))
   goes-round j ν δ y z =
-      qed W (Lent ν ∷ ‵ (Table (ν ∷ []) δ b o (length ys) (L j)) ∷ (‵ (Bytes κ′ y) ⊛ ‵ (Bytes κ′ z)) ∷ []) ∵ says ! (subst (λ (m : ℕ). p .n ≤ m) (sym (len j)) enough, small .heads) $ frame ! $
+      qed W (Lent ν ∷ ‵ (Table (ν ∷ []) δ b o (length ys) (L j)) ∷ (‵ (Bytes κ′ y) ⊛ ‵ (Bytes κ′ z)) ∷ []) ∵ says-both ! (subst (λ (m : ℕ). p .n ≤ m) (sym (len j)) enough) (small .heads) $ frame ! $
       move ! (1 ∷ []) $ split ! $ nothing ! $ move ! (2 ∷ 0 ∷ []) $ fjoin ! $ move ! (1 ∷ 0 ∷ []) $ fjoin ! $ count-owned ! (p .n) n-fits $ fjoin ! $ move ! (1 ∷ 0 ∷ []) $ fjoin ! $ done !
 
   module _ (𝓣 : Tables 𝓤 H) (known-rows : Triple 𝓤 (𝓣 .C #run·plans·rows-of) (RowsOf 𝓤 H A mem run)) (known-coins : Triple 𝓤 (𝓣 .C #run·plans·coins-of) (CoinsOf 𝓤 H A mem run))
@@ -258,7 +258,7 @@ module _ {M : Type 1} (𝓤 : URA M) (H : Heap 𝓤) (A : Atoms 𝓤) (W : Given
   run-rounds-walks : Walks 𝓤 H A run-rounds.ended stayed (WpFn 𝓤 H (𝓣 .C) (𝓣 .Λ) code.function) (run-rounds.clauses 𝓤 H A mem run)
   run-rounds-walks = walked 𝓤 H A run-rounds.ended stayed (run-rounds.clauses 𝓤 H A mem run) (WpFn 𝓤 H (𝓣 .C) (𝓣 .Λ) code.function)
       (λ κs. (slice-vals, (slice-vals, ((λ (c : Plan). machP c ∷ []), tt)))) (λ κs. (mut-slice-tells (named 0) (κs .0) R, (shr-slice-tells (named 1) (κs .1 .0) u8, (plan-tells, tt))))
-      (λ κs qs bounds a g are. needs 𝓤 ((a .1 .1 .0 .n ≤ length (a .0 .now)) × Small (a .1 .1 .0)) _ (λ fit.
+      (λ κs qs bounds a g are. needs-both 𝓤 (a .1 .1 .0 .n ≤ length (a .0 .now)) (Small (a .1 .1 .0)) _ (λ fit.
       walk 𝓤 H A W mem run (κs .0) (κs .1 .0) (qs .0) (qs .1 .0) (a .0 .ptr .0) (a .0 .ptr .1) (a .0 .name) (a .0 .now) (a .1 .0) (a .1 .1 .0) (are .0 .0 .1) (are .1 .0 .0 .1) (are .1 .1 .0) (fit .0) (fit .1) 𝓣 known-rows known-coins known-round))
 
   run-rounds-meets : Meets 𝓤 H A run-rounds.signature (WpFn 𝓤 H (𝓣 .C) (𝓣 .Λ) code.function) (run-rounds.spec 𝓤 H A mem run)

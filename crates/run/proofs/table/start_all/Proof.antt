@@ -36,12 +36,13 @@ use denote.Triple.Spec.{Meets, tripleOf}
 use denote.Triple.Statement.{Contract, Triple}
 use denote.Triple.Call.{calls-at}
 use denote.Triple.Table.{entered, cited}
-use denote.Triple.Walked.{says, needs, Stays, stay-none, stay-slice, stay-none-slice, walkOf, goes-none, goes-slice, goes-none-slice, Walks, ends-at, walked, walk-meets}
+use denote.Triple.Walked.{says, Stays, stay-none, stay-slice, stay-none-slice, walkOf, goes-none, goes-slice, goes-none-slice, Walks, ends-at, walked, walk-meets}
 use denote.Exit.{yes}
 use Rattle.rules.specs.declared.Head.{Head}
 use Rattle.file.specs.Table.{placed, startIn}
 use Rattle.file.proofs.running.Placing.{placed-length}
 use Rattle.run.proofs.Walking.{R, headSize, head-lawful, headTy, tableTy, bytesTy, bytesVal, Bytes, count-owned, answered, bytes-copied, head-out, head-put, table-closed, Upto, Nearer, Nearer-wf, fits, next, nearer, next-fits, within, place-fits, at-end, one-more, after}
+use Rattle.run.proofs.Calling.{says-both, needs-both}
 use Rattle.run.proofs.heads.started as started
 use Rattle.run.proofs.heads.started.Symbol as started-def
 use Rattle.run.proofs.heads.started.Symbol.{name as #run·heads·started}
@@ -105,7 +106,7 @@ module _ {M : Type 1} (𝓤 : URA M) (H : Heap 𝓤) (A : Atoms 𝓤) (W : Given
 
   goes-started : (i : ℕ) → i < 2 ^ 64 → i < n → ent 𝓤 (sep 𝓤 (A .lft κ′ q′) (sem 𝓤 H A (Bytes κ′ fx))) (Started 𝓤 H A mem run .pre (to-started i))
   goes-started i i-fits lt =
-      qed W (‵ (flft κ′ q′) ∷ ‵ (Bytes κ′ fx) ∷ []) ∵ says ! (few, lt) $ nothing ! $ move ! (1 ∷ 0 ∷ []) $ join ! $ frame ! $
+      qed W (‵ (flft κ′ q′) ∷ ‵ (Bytes κ′ fx) ∷ []) ∵ says-both ! few lt $ nothing ! $ move ! (1 ∷ 0 ∷ []) $ join ! $ frame ! $
       nothing ! $ count-owned ! i i-fits $ fjoin ! $ count-owned ! n n-fits $ fjoin ! $ move ! (1 ∷ 0 ∷ []) $ fjoin ! $ done !
 
   module _ (𝓣 : Tables 𝓤 H) (known : Triple 𝓤 (𝓣 .C #run·heads·started) (Started 𝓤 H A mem run)) where
@@ -187,7 +188,7 @@ module _ {M : Type 1} (𝓤 : URA M) (H : Heap 𝓤) (A : Atoms 𝓤) (W : Given
   start-all-walks : Walks 𝓤 H A start-all.ended stayed (WpFn 𝓤 H (𝓣 .C) (𝓣 .Λ) code.function) (start-all.clauses 𝓤 H A mem run)
   start-all-walks = walked 𝓤 H A start-all.ended stayed (start-all.clauses 𝓤 H A mem run) (WpFn 𝓤 H (𝓣 .C) (𝓣 .Λ) code.function)
       (λ κs. (slice-vals, (slice-vals, (uint-vals w64, tt)))) (λ κs. (mut-slice-tells (named 0) (κs .0) R, (shr-slice-tells (named 1) (κs .1 .0) u8, (uint-tells w64, tt))))
-      (λ κs qs bounds a g are. needs 𝓤 ((a .1 .1 .0 ≤ length (a .0 .now)) × (a .1 .1 .0 ≤ 32)) _ (λ fit.
+      (λ κs qs bounds a g are. needs-both 𝓤 (a .1 .1 .0 ≤ length (a .0 .now)) (a .1 .1 .0 ≤ 32) _ (λ fit.
       walk 𝓤 H A W mem run (κs .0) (κs .1 .0) (qs .0) (qs .1 .0) (a .0 .ptr .0) (a .0 .ptr .1) (a .0 .name) (a .0 .now) (a .1 .0) (a .1 .1 .0) (are .0 .0 .1) (are .1 .0 .0 .1) (are .1 .1 .0 .1) (fit .0) (fit .1) 𝓣 known))
 
   start-all-meets : Meets 𝓤 H A start-all.signature (WpFn 𝓤 H (𝓣 .C) (𝓣 .Λ) code.function) (start-all.spec 𝓤 H A mem run)

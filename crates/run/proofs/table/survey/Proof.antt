@@ -37,7 +37,7 @@ use denote.Triple.Spec.{Meets, tripleOf}
 use denote.Triple.Statement.{Contract, Triple}
 use denote.Triple.Call.{calls-at}
 use denote.Triple.Table.{entered, cited}
-use denote.Triple.Walked.{says, needs, Stays, stay-none, stay-none-slice, walkOf, goes-none, goes-none-slice, Walks, ends-at, walked, walk-meets}
+use denote.Triple.Walked.{says, Stays, stay-none, stay-none-slice, walkOf, goes-none, goes-none-slice, Walks, ends-at, walked, walk-meets}
 use denote.Exit.{yes}
 use Rattle.rules.specs.declared.Head.{Head}
 use Rattle.file.specs.Table.{headOf}
@@ -45,6 +45,7 @@ use Rattle.run.specs.declared.heads.Survey.{Survey}
 use Rattle.run.specs.Survey.{noSurvey, noted, surveyOf}
 use Rattle.run.proofs.Surveyed.{survey-decided}
 use Rattle.run.proofs.Walking.{R, S, mach, machS, headSize, head-lawful, head-tells, head-copy, survey-lawful, survey-value, headTy, surveyTy, shrTableTy, head-owned, survey-owned, count-owned, survey-shown, survey-as, answered, head-out, head-back, Upto, Nearer, Nearer-wf, fits, next, nearer, next-fits, within, place-fits, at-end, one-more, after, survey-none, survey-more}
+use Rattle.run.proofs.Calling.{says-both, needs-both}
 use Rattle.run.proofs.heads.no_survey as no-survey
 use Rattle.run.proofs.heads.no_survey.Symbol as no-survey-def
 use Rattle.run.proofs.heads.no_survey.Symbol.{name as #no-survey}
@@ -122,7 +123,7 @@ module _ {M : Type 1} (𝓤 : URA M) (H : Heap 𝓤) (A : Atoms 𝓤) (W : Given
 
   goes-to-note : (c : Survey) (i : ℕ) (h : Head) → Is R h (mach h ∷ []) → i < 2 ^ 64 → i < 32 → c .decided ≤ i → ent 𝓤 (sem 𝓤 H A (OwnS c)) (Note 𝓤 H A mem run .pre (to-note c i h))
   goes-to-note c i h is i-fits lt le =
-      qed W (‵ (OwnS c) ∷ []) ∵ says ! (lt, le) $ nothing ! $ head-owned ! h _ is $ fjoin ! $ count-owned ! i i-fits $ fjoin ! $ move ! (1 ∷ 0 ∷ []) $ fjoin ! $ nothing ! $ done !
+      qed W (‵ (OwnS c) ∷ []) ∵ says-both ! lt le $ nothing ! $ head-owned ! h _ is $ fjoin ! $ count-owned ! i i-fits $ fjoin ! $ move ! (1 ∷ 0 ∷ []) $ fjoin ! $ nothing ! $ done !
 
   module _ (𝓣 : Tables 𝓤 H) (known-none : Triple 𝓤 (𝓣 .C #no-survey) (NoSurvey 𝓤 H A mem run)) (known-note : Triple 𝓤 (𝓣 .C #note) (Note 𝓤 H A mem run)) where
     abbrev C : Calls 𝓤 H
@@ -221,7 +222,7 @@ module _ {M : Type 1} (𝓤 : URA M) (H : Heap 𝓤) (A : Atoms 𝓤) (W : Given
   survey-walks : Walks 𝓤 H A survey.ended stayed (WpFn 𝓤 H (𝓣 .C) (𝓣 .Λ) code.function) (survey.clauses 𝓤 H A mem run)
   survey-walks = walked 𝓤 H A survey.ended stayed (survey.clauses 𝓤 H A mem run) (WpFn 𝓤 H (𝓣 .C) (𝓣 .Λ) code.function)
       (λ κs. (slice-vals, (uint-vals w64, tt))) (λ κs. (shr-slice-tells (named 0) (κs .0) R, (uint-tells w64, tt)))
-      (λ κs qs bounds a g are. needs 𝓤 ((a .1 .0 ≤ length (a .0 .now)) × (a .1 .0 ≤ 32)) _ (λ fit.
+      (λ κs qs bounds a g are. needs-both 𝓤 (a .1 .0 ≤ length (a .0 .now)) (a .1 .0 ≤ 32) _ (λ fit.
       walk 𝓤 H A W mem run (κs .0) (qs .0) (a .0 .ptr .0) (a .0 .ptr .1) (a .0 .name) (a .0 .now) (a .1 .0) (are .0 .0 .1) (are .1 .0 .1) (fit .0) (fit .1) 𝓣 known-none known-note))
 
   survey-meets : Meets 𝓤 H A survey.signature (WpFn 𝓤 H (𝓣 .C) (𝓣 .Λ) code.function) (survey.spec 𝓤 H A mem run)
