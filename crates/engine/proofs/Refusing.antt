@@ -16,12 +16,12 @@ use Rattle.rules.specs.declared.Class.{Class}
 use Rattle.rules.specs.declared.Class.the-variants.{Never, First, Second, Odd, Even}
 use Rattle.rules.specs.declared.Ballot.{Ballot}
 use Rattle.rules.specs.declared.Head.{Head}
-use Rattle.rules.specs.Below.{some}
+use Rattle.rules.specs.Below.{first, some}
 use Rattle.rules.specs.Ballot.{valueCode, valueOf, statusCode, statusOf, ballotAt, phaseAt, classOf, obeys, breaksRule}
 use Rattle.rules.specs.Heard.{member}
 use Rattle.rules.specs.Tick.{sameState, differ, ownOtherwise, heldOtherwise, contradicts}
 use Rattle.rules.proofs.Counting.Truth.{Means, never, false-not, not-false as means-false, not-not, means-same, means-as, means-and, means-not, means-eq, and-left, and-right, and-never, or-left-false, or-right-false, or-never}
-use Rattle.rules.proofs.Counting.Below.{NoneBefore, some-not, not-some, means-some}
+use Rattle.rules.proofs.Counting.Below.{NoneBefore, first-le, first-before, first-holds, some-not, not-some, means-some}
 use Rattle.rules.proofs.Counting.Sets.{member-setOf}
 use Rattle.rules.proofs.Meaning.Meanings.{value-back, status-back}
 use Rattle.rules.proofs.Meaning.Accepted.{value-code-back, status-code-back}
@@ -111,10 +111,6 @@ means-differ a b =
     means-as (λ r. ((r .1 .0, r .0), r .1 .1)) (λ r. (r .0 .1, (r .0 .0, r .1)))
     (means-and (means-eq (a .sender) (b .sender)) (means-and (means-eq (a .phase) (b .phase)) (means-not (means-state a b))))
 
-pub differ-state : (a b : Ballot) → a .sender ≡ b .sender → a .phase ≡ b .phase → not (sameState a b) ≡ differ a b
-unfolding differ
-differ-state a b e q = sym (simp (eq-eqb (a .sender) (b .sender) e, eq-eqb (a .phase) (b .phase) q))
-
 half : (v t : ℕ) → t < 2 → (v * 2 + t) / 2 ≡ v
 half v t b = omega arith
 
@@ -135,6 +131,10 @@ ballot-same a b s e =
     ∙ ap (λ (x : ℕ). ballotBy (b .sender) x (a .phase)) e
     ∙ ap (λ (x : ℕ). ballotBy (b .sender) (code b) x) (s .0)
     ∙ ballot-by b
+
+-- a search up to an index of the list ends in the list
+pub found-low : (i r k : ℕ) (p : ℕ → Bool) → r ≡ first i p → i < k → r < k
+found-low i r k p e b = omega (arith, e, first-le i p)
 
 -- a ballot of a lower phase than the head's gives neither 7 nor 8 by what is held
 pub late-otherwise : (h : Head) (b : Ballot) → b .phase < h .phase → false ≡ ownOtherwise h b || heldOtherwise h b
@@ -267,6 +267,37 @@ module _ (h : Head) (l : List ℕ) (i : ℕ) (clean : NoneBefore i (refused h l)
 
       from : Both → OneOf
       from (r, none) = (r .0, r .1, (r .2, λ e. none (r .0, r .1, (r .2, e))))
+
+  -- or: from the first of its sender and phase
+  differs-first : (e : ℕ) → e ≡ first i here → earlier h l i ≡ not (eqb (code (ballotAt l e)) (code (ballotAt l i)))
+  differs-first e is =
+      means-same
+      (means-as to from (means-some (λ j. means-differ (ballotAt l j) (ballotAt l i))))
+      (means-not (means-eq (code (ballotAt l e)) (code (ballotAt l i))))
+    where
+      there : e < i → Same (ballotAt l e) (ballotAt l i)
+      there b = means-here e .0 (ap here is ∙ first-holds i here (omega (arith, is)))
+
+      not-after : (j : ℕ) → here j ≡ true → e ≤ j
+      not-after j t = elim (decLt j e) [ yes b ↦ never (sym (first-before i here j (omega (arith, is))) ∙ t) | no b ↦ omega (arith, b) ]
+
+      to : OneOf → code (ballotAt l e) ≡ code (ballotAt l i) → ⊥
+      to (j, b, (s, n)) q =
+          let low : e < i = omega (arith, not-after j (means-here j .1 s), b) in
+          let s′ = there low in
+          n (one-code j e b low (s .0 ∙ sym (s′ .0), s .1 ∙ sym (s′ .1)) ∙ q)
+
+      from : (code (ballotAt l e) ≡ code (ballotAt l i) → ⊥) → OneOf
+      from n = elim (decLt e i) [ yes b ↦ (e, b, (there b, n)) | no b ↦ absurd (n (ap (λ (m : ℕ). code (ballotAt l m)) (omega (arith, b, is, first-le i here)))) ]
+
+  pub refused-late : breaksRule (h .n) l i ≡ false → (e a b : ℕ) → e ≡ first i here → a ≡ codeAt l e → b ≡ codeAt l i
+      → not (eqb a b) || otherwise h l i ≡ refused h l i
+  refused-late stands e a b is ea eb =
+      ap₂ (λ (x y : ℕ). not (eqb x y) || otherwise h l i) (ea ∙ code-read (h .n) l e before) (eb ∙ code-read (h .n) l i stands)
+      ∙ sym (ap (λ (t : Bool). t || otherwise h l i) (differs-first e is)) ∙ refused-parts h l i stands
+    where
+      before : breaksRule (h .n) l e ≡ false
+      before = elim (decLt e i) [ yes b ↦ stands-clean h l e (clean e b) | no b ↦ ap (breaksRule (h .n) l) (omega (arith, b, is, first-le i here)) ∙ stands ]
 
   -- what was said before was not barred
   not-barred : some i same ≡ true → otherwise h l i ≡ false

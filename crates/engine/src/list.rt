@@ -4,7 +4,8 @@ ghost use mathlib.Core.Bool.{false, _||_};
 ghost use Prim.Native.Nat.{ℕ, _<_, _≤_};
 ghost use Rattle.rules.specs.Below.{first};
 ghost use Rattle.rules.specs.Ballot.{breaksRule, ballotAt};
-ghost use Rattle.rules.specs.Tick.{ballots as ballotsOf, sameState, ownOtherwise, differ as differOf, heldOtherwise};
+ghost use Rattle.rules.specs.Tick.{ballots as ballotsOf, sameState, ownOtherwise, heldOtherwise};
+ghost use Rattle.engine.specs.Look.{isOf};
 use crate::ballot::breaks_rule;
 use crate::head::own_ballot;
 use crate::head::stands_under;
@@ -62,35 +63,30 @@ fn own_otherwise(head: Head, ballot: Ballot) -> bool
             | ((ballot.phase == head.phase) & !same_state(ballot, own_ballot(head))))
 }
 
-// The first ballot before index i that differs from the one there.
-pub(crate) fn first_differing(ballots: &[u8], i: usize) -> usize
-    requires { ⌜ i < ballotsOf (now ballots) ⌝ }
-    ensures { λ r.
-        ⌜ r ≡ first i (λ j. differOf (ballotAt (now (ballots .entry)) j) (ballotAt (now (ballots .entry)) i)) ⌝ }
+// The first ballot of the sender at the phase before an index; the index where there is none.
+pub(crate) fn first_of(ballots: &[u8], phase: u16, sender: u8, before: usize) -> usize
+    requires { ⌜ before < ballotsOf (now ballots) ⌝ }
+    ensures { λ r. ⌜ r ≡ first before (isOf (now (ballots .entry)) phase sender) ⌝ }
 {
-    let mut j: usize = 0;
-    while j < i {
-        if differ(ballots, j, i) {
-            return j;
+    let mut i: usize = 0;
+    while i < before {
+        if is_of(ballots, phase, sender, i) {
+            return i;
         }
-        j += 1;
+        i += 1;
     }
-    j
+    i
 }
 
-// Whether the ballots at two indexes differ. Most are of two senders or phases, and not read further.
-fn differ(ballots: &[u8], j: usize, i: usize) -> bool
-    requires { ⌜ j < ballotsOf (now ballots) ⌝ }
+// Most ballots are of other senders, and not read further.
+fn is_of(ballots: &[u8], phase: u16, sender: u8, i: usize) -> bool
     requires { ⌜ i < ballotsOf (now ballots) ⌝ }
-    ensures { λ r. ⌜ r ≡ differOf (ballotAt (now (ballots .entry)) j) (ballotAt (now (ballots .entry)) i) ⌝ }
+    ensures { λ r. ⌜ r ≡ isOf (now (ballots .entry)) phase sender i ⌝ }
 {
-    if sender_at(ballots, j) != sender_at(ballots, i) {
+    if sender_at(ballots, i) != sender {
         return false;
     }
-    if phase_at(ballots, j) != phase_at(ballots, i) {
-        return false;
-    }
-    !same_state(ballot_at(ballots, j), ballot_at(ballots, i))
+    phase_at(ballots, i) == phase
 }
 
 // Whether the ballot at index i is unlike the head under its own number, or unlike what is held.

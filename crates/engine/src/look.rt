@@ -1,8 +1,8 @@
 // One look at a list of ballots, up to the first that is refused by 6, 7 or 8. So one sender says one
 // thing at a phase in all that was looked at, and sets of senders tell whether the next one differs.
 ghost use mathlib.Core.Path.{_≡_};
-ghost use mathlib.Core.Bool.{true, cond, _&&_, _||_, not};
-ghost use Prim.Native.Nat.{_<_};
+ghost use mathlib.Core.Bool.{true, false, cond, _&&_, _||_, not};
+ghost use Prim.Native.Nat.{ℕ, _<_};
 ghost use lib.Dec.{eqb};
 ghost use Rattle.rules.specs.Below.{first};
 ghost use Rattle.rules.specs.Ballot.{ballotAt, breaksRule};
@@ -12,7 +12,7 @@ ghost use Rattle.engine.specs.Look.{refused, lookAt, unlooked as unlooke
 ghost use Rattle.engine.specs.Look.{Fits, Looks, GoesOn, KnownIn, codeBy, foremost as foremostOf};
 use crate::ballot::breaks_rule;
 use crate::ballot::class;
-use crate::list::first_differing;
+use crate::list::first_of;
 use crate::list::otherwise;
 use crate::said::alone;
 use crate::said::barred_from;
@@ -174,11 +174,13 @@ fn with_late(look: Look, head: Head, ballots: &[u8]) -> Look
 }
 
 // Whether a ballot of a lower phase than the look's is refused. Only where its sender has sent another
-// one of a lower phase are the earlier ballots searched.
+// one of a lower phase are the earlier ballots searched, and only up to the first of its sender and
+// phase: none before this one is refused, so all of them say the same.
 fn is_refused_late(elsewhere: u32, head: Head, ballots: &[u8], i: usize) -> bool
     requires { ⌜ Fits head ⌝ }
     requires { ⌜ i < ballotsOf (now ballots) ⌝ }
     requires { ⌜ KnownIn elsewhere (now ballots) i ⌝ }
+    requires { ⌜ ((j : ℕ) → j < i → refused head (now ballots) j ≡ false) ⌝ }
     ensures { λ r. ⌜ r ≡ refused head (now (ballots .entry)) i ⌝ }
 {
     if breaks_rule(head.n as u32, ballots, i) {
@@ -187,7 +189,8 @@ fn is_refused_late(elsewhere: u32, head: Head, ballots: &[u8], i: usize) -> bool
     if !has(elsewhere, sender_at(ballots, i)) {
         return otherwise(head, ballots, i);
     }
-    (first_differing(ballots, i) < i) | otherwise(head, ballots, i)
+    let earlier = first_of(ballots, phase_at(ballots, i), sender_at(ballots, i), i);
+    (code_at(ballots, earlier) != code_at(ballots, i)) | otherwise(head, ballots, i)
 }
 
 fn with_elsewhere(look: Look, next: usize, elsewhere: u32) -> Look

@@ -31,7 +31,7 @@ returns c =
     (λ b q. absurd (omega (arith, q, c .before .if1 .taken, c .before .before .phase-at .ensures)))
 
 is-refused-late-requires : tie.Need-is-refused-late-requires Inv-loop μ-loop
-is-refused-late-requires c κs = (c .before .before .before .before .before .pre .0, (omega arith, late-known _ _ _ _ _ _ (saidOf (c .before .before .before .before .before .args .look)) (c .before .before .before .loop .inv .3) (omega (arith, c .if1 .left, c .before .phase-at .ensures))))
+is-refused-late-requires c κs = (c .before .before .before .before .before .pre .0, (omega arith, (late-known _ _ _ _ _ _ (saidOf (c .before .before .before .before .before .args .look)) (c .before .before .before .loop .inv .3) (omega (arith, c .if1 .left, c .before .phase-at .ensures)), c .before .before .before .loop .inv .2)))
 
 with-elsewhere-requires-2 : tie.Need-with-elsewhere-requires-2 Inv-loop μ-loop
 with-elsewhere-requires-2 c κs = tt
