@@ -21,7 +21,7 @@ use Rattle.file.specs.declared.Outcome.{Outcome}
 use Rattle.file.specs.declared.Text.{Text}
 use Rattle.file.specs.Table.{headOf}
 use Rattle.file.specs.Benched.{benchedOf}
-use Rattle.file.specs.Report.{word, decimal, figure, valueWord, statusWord, decisionWord, firstLine, headLine, headLines}
+use Rattle.file.specs.Report.{word, figure, valueWord, statusWord, decisionWord, firstLine, headLine, headLines}
 use Rattle.file.specs.Report.{lastLine, refusalLine, reportOf, textOf}
 use Rattle.file.proofs.printing.Decimals.{decimal-short}
 use Rattle.run.specs.Writing.{Held, noText, fitting, withWord}
