@@ -1,5 +1,5 @@
 -- What a look tells at its end: the number that a list gives, and the head after steps 1 and 2.
-use Prim.Native.Nat.{ℕ, _^_, _+_, _*_, _/_, _%_, _≤_, _<_}
+use Prim.Native.Nat.{ℕ, _^_, _+_, _*_, _%_, _≤_, _<_}
 use mathlib.Core.Path.{_≡_, refl, sym, ap, ap₂, fun-ext, _∙_}
 use mathlib.Core.List.{List}
 use mathlib.Core.Bool.{Bool, true, false, cond, _&&_, _||_}
@@ -22,7 +22,7 @@ use Rattle.rules.specs.Head.{sound}
 use Rattle.rules.specs.Tick.{ballots, leader, copying, moved, heardWith, added, gathered, ownOtherwise, contradicts}
 use Rattle.rules.proofs.Counting.Truth.{Means, false-not, not-false, means-same, means-as, means-self, means-and, means-or, means-eq, and-never, or-left-false, or-right-false}
 use Rattle.rules.proofs.Counting.Below.{NoneBefore, first-le, first-before, first-holds, first-at, some-here, some-not, not-some, means-some}
-use Rattle.rules.proofs.Counting.Sets.{member-none, member-setOf, means-member, setOf-lt, setOf-is, digit, means-within}
+use Rattle.rules.proofs.Counting.Sets.{member-none, member-setOf, means-member, member-or, setOf-lt, setOf-is, means-within}
 use Rattle.rules.specs.Given.{Sound}
 use Rattle.rules.proofs.OneTick.Hearing.{none-heard}
 use Rattle.rules.proofs.Meaning.Meanings.{means-sound}
@@ -112,23 +112,11 @@ module _ (h : Head) (l : List ℕ) where
       left : (x y z : Bool) → x ≡ false → y ≡ false → x || (y || z) ≡ true → z ≡ true
       left x y z p q r = sym (ap₂ (λ (s t : Bool). s || (t || z)) p q) ∙ r
 
--- ---- the phase after step 2
+-- ---- steps 1 and 2, by the look
 
 -- the ballot at index i is of a higher phase
 abbrev above : Head → List ℕ → ℕ → Bool
 above h l i = ltb (h .phase) (ballotAt l i .phase)
-
--- the highest phase is the one that step 2 leaves
-highest-moved : (h : Head) (l : List ℕ) → highest h l (ballots l) ≡ moved h l .phase
-highest-moved h l = go (moves h l)
-  where
-    go : Moves h l → highest h l (ballots l) ≡ moved h l .phase
-    go (stays q f) =
-        omega (arith, highest-least h l (ballots l), highest-within h l (ballots l) (h .phase) (omega arith) f, ap (λ (k : Head). k .phase) q)
-    go (copies i b q u f) =
-        omega (arith, highest-most h l (ballots l) i b, highest-within h l (ballots l) (ballotAt l i .phase) (omega arith) f, ap (λ (k : Head). k .phase) q)
-
--- ---- steps 1 and 2, by the look
 
 some-or : (k : ℕ) (a b : ℕ → Bool) → some k a || some k b ≡ some k (λ j. a j || b j)
 some-or k a b =
@@ -164,10 +152,10 @@ two-codes v b =
         go (yes z) = inl (omega arith)
         go (no n) = inr (omega (arith, n, status-low (b .status)))
 
--- a code, by whether it is 1, 2, 3 or 4
-digits : (c : ℕ) → c < 5
-    → cond (eqb c 1) 1 0 + cond (eqb c 2) 1 0 * 2 + cond (eqb c 3) 1 0 * 3 + cond (eqb c 4) 1 0 * 4 ≡ c
-digits = five _ refl refl refl refl refl
+-- a code, by what its value and status are
+by-code : (c : ℕ) → c < 5
+    → cond (eqb c 4) 4 (cond (eqb c 2 || eqb c 3) (cond (eqb c 1 || eqb c 3) 3 2) (cond (eqb c 1 || eqb c 3) 1 0)) ≡ c
+by-code = five _ refl refl refl refl refl
 
 -- who said a value, decided or not
 said-value : (l : List ℕ) (k p : ℕ) (v : Value) (s : ℕ)
@@ -231,11 +219,10 @@ module _ (h : Head) (l : List ℕ) (look : Look) (is : Looks h l look) (end : lo
         (means-some (λ j. means-and (means-eq _ _) (means-eq _ _)))
 
     lower : (s : ℕ) → s < best .sender → member s (look .listed) ≡ false
-    lower s b = not-false (listed s (omega (arith, low))) behind
-      where
-        behind : Listed s → ⊥
-        behind (j, m, e) =
-            false-not (means-ahead (ballotAt l j) best) (leads .behind j m) (inr (e .0 ∙ sym phase, omega (arith, e .1)))
+    lower s b =
+        not-false (listed s (omega (arith, low)))
+        (λ r. false-not (means-ahead _ best) (leads .behind (r .0) (r .1))
+        (inr (r .2 .0 ∙ sym phase, omega (arith, r .2 .1))))
 
     lowest : first 32 (λ s. member s (look .listed)) % 32 ≡ best .sender
     lowest =
@@ -249,20 +236,20 @@ module _ (h : Head) (l : List ℕ) (look : Look) (is : Looks h l look) (end : lo
     told c (j, m, e) =
         one-code h l (ballots l) none (leader l) j (leads .within) m (phase ∙ sym (e .0), sym (e .1 .0)) ∙ e .1 .1
 
-    said : (c : ℕ) → c < 5 → getD (saidOf look) c 0 / 2 ^ best .sender % 2 ≡ cond (eqb (code best) c) 1 0
+    said : (c : ℕ) → ltb c 5 ≡ true → member (best .sender) (getD (saidOf look) c 0) ≡ eqb (code best) c
     said c b =
-        sym (digit _ (omega arith)) ∙ ap (λ (t : Bool). cond t 1 0) (means-same by (means-eq (code best) c))
-      where
-        by : Means (member (best .sender) (getD (saidOf look) c 0)) (code best ≡ c)
-        by =
-            means-as (told c) (λ e. (leader l, leads .within, (phase, (refl, e))))
-            (means-member 32 _ (best .sender) _ (sees h l (ballots l) look at-end .3 c b) low
-            (means-some (λ j. means-and (means-eq _ _) (means-and (means-eq _ _) (means-eq _ _)))))
+        means-same
+        (means-as (told c) (λ e. (leader l, leads .within, (phase, (refl, e))))
+        (means-member 32 _ (best .sender) _ (sees h l (ballots l) look at-end .3 c (ltb-true c 5 b)) low
+        (means-some (λ j. means-and (means-eq _ _) (means-and (means-eq _ _) (means-eq _ _))))))
+        (means-eq (code best) c)
 
     code-said : codeBy look (best .sender) ≡ code best
     code-said =
         let few = code-low (h .n) l (leader l) (stands-clean h l (leader l) (none (leader l) (leads .within))) in
-        rw (said 1 (lit< tt), said 2 (lit< tt), said 3 (lit< tt), said 4 (lit< tt)) (digits (code best) few)
+        let or = member-or (best .sender) in
+        simp (or (look .ones), or (look .«zeros_decided»), said 1 refl, said 2 refl, said 3 refl, said 4 refl)
+        (by-code (code best) few)
 
     foremost-leads : foremost look ≡ best
     foremost-leads =
@@ -270,8 +257,17 @@ module _ (h : Head) (l : List ℕ) (look : Look) (is : Looks h l look) (end : lo
         ∙ ap₂ (ballotBy (best .sender)) code-said (sym phase)
         ∙ ballot-by best
 
+  -- the look's phase is the one that step 2 leaves
   moved-phase : moved h l .phase ≡ look .phase
-  moved-phase = sym (highest-moved h l) ∙ sees h l (ballots l) look at-end .0
+  moved-phase = go (moves h l) (sees h l (ballots l) look at-end .0)
+    where
+      go : Moves h l → highest h l (ballots l) ≡ look .phase → moved h l .phase ≡ look .phase
+      go (stays q f) e =
+          let most = highest-within h l (ballots l) (h .phase) (omega arith) f in
+          omega (arith, most, highest-least h l (ballots l), ap (λ (k : Head). k .phase) q)
+      go (copies i b q u f) e =
+          let most = highest-within h l (ballots l) (ballotAt l i .phase) (omega arith) f in
+          omega (arith, most, highest-most h l (ballots l) i b, ap (λ (k : Head). k .phase) q)
 
   pub moved-by : Fits h → cond (ltb (h .phase) (look .phase)) (copying h (foremost look)) h ≡ moved h l
   unfolding moved
@@ -279,17 +275,15 @@ module _ (h : Head) (l : List ℕ) (look : Look) (is : Looks h l look) (end : lo
     where
       go : Moves h l → cond (ltb (h .phase) (look .phase)) (copying h (foremost look)) h ≡ moved h l
       go (stays q f) =
-          let e : h .phase ≡ look .phase = sym (ap (λ (k : Head). k .phase) q) ∙ moved-phase in
-          ap (λ (t : Bool). cond t (copying h (foremost look)) h) (le-ltb (h .phase) (look .phase) (omega arith))
-          ∙ sym q
+          let e : look .phase ≤ h .phase = omega (arith, sym moved-phase ∙ ap (λ (k : Head). k .phase) q) in
+          ap (λ (t : Bool). cond t (copying h (foremost look)) h) (le-ltb (h .phase) (look .phase) e) ∙ sym q
       go (copies i b q u f) =
           let e : ballotAt l i .phase ≡ look .phase = sym (ap (λ (k : Head). k .phase) q) ∙ moved-phase in
           let p = leader-leads l (omega arith) in
-          let most = f (leader l) (p .within) in
           let some-above = some-here (ballots l) (above h l) i b (lt-ltb (h .phase) (ballotAt l i .phase) u) in
           ap₂ (λ (t : Bool) (b : Ballot). cond t (copying h b) h)
           (lt-ltb (h .phase) (look .phase) (omega arith) ∙ sym some-above)
-          (foremost-leads fits p (omega (arith, most, leader-highest l i b)))
+          (foremost-leads fits p (omega (arith, f (leader l) (p .within), leader-highest l i b)))
 
   pub shown-gathered : (g : Head) → g ≡ moved h l → shown g look ≡ gathered h l
   unfolding gathered

@@ -1,11 +1,12 @@
 -- What the functions of `engine` hand to one another: a tick's answer in two parts, and what one look at a list of
 -- ballots shows.
-use Prim.Native.Nat.{ℕ, zero, suc, _+_, _*_, _/_, _%_, _^_, _≤_, _<_}
+use Prim.Native.Nat.{ℕ, zero, suc, _+_, _*_, _/_, _%_, _≤_, _<_}
 use mathlib.Core.Path.{_≡_}
 use mathlib.Core.List.{List, [], _∷_}
 use mathlib.Core.Bool.{Bool, true, false, cond, _&&_, _||_}
 use lib.Dec.{ltb, eqb}
 use lib.ListN.{getD}
+use lib.Bits.{bitOr}
 use Rattle.rules.specs.declared.Ballot.{Ballot}
 use Rattle.rules.specs.declared.Head.{Head}
 use Rattle.rules.specs.declared.Ticked.{Ticked}
@@ -196,18 +197,16 @@ abbrev pub KnownIn : ℕ → List ℕ → ℕ → Type 0
 KnownIn set l i =
     (j : ℕ) → j < i → ballotAt l j .phase ≡ ballotAt l i .phase → ballotAt l j .sender < 32 → member (ballotAt l j .sender) set ≡ true
 
--- what head s says at the look's phase: it is in the set of that number only; and the ballot of the lowest sender there
+-- what head s says at the look's phase, in one number; and the ballot of the lowest sender there
 abbrev pub codeBy : Look → ℕ → ℕ
 codeBy look s =
-    look .«zeros_decided» / 2 ^ s % 2
-    + look .ones / 2 ^ s % 2 * 2
-    + look .«ones_decided» / 2 ^ s % 2 * 3
-    + look .blanks / 2 ^ s % 2 * 4
+    let decided = member s (bitOr (look .«zeros_decided») (look .«ones_decided»)) in
+    cond (member s (look .blanks)) 4
+    (cond (member s (bitOr (look .ones) (look .«ones_decided»))) (cond decided 3 2) (cond decided 1 0))
 
 abbrev pub foremost : Look → Ballot
 foremost look =
-    let s = first headsMost (λ s. member s (look .listed)) % 32 in
-    ballotBy s (codeBy look s) (look .phase)
+    let s = first headsMost (λ s. member s (look .listed)) % 32 in ballotBy s (codeBy look s) (look .phase)
 
 -- the head with those that were seen at its phase; nobody is decided with a blank
 abbrev pub shown : Head → Look → Head

@@ -273,14 +273,28 @@ pub(crate) fn foremost(look: Look) -> Ballot
     }
 }
 
-// What head s says at the look's phase, its value and status in one number: it is in that set only.
+// What head s says at the look's phase, its value and status in one number.
 fn code_by(look: Look, s: u8) -> u8
     requires { ⌜ s < 32 ⌝ }
     ensures { λ r. ⌜ r ≡ codeBy look s ⌝ }
 {
-    let code = (look.zeros_decided >> s) % 2
-        + (look.ones >> s) % 2 * 2
-        + (look.ones_decided >> s) % 2 * 3
-        + (look.blanks >> s) % 2 * 4;
-    code as u8
+    code_with(
+        ((look.ones | look.ones_decided) >> s) % 2 == 1,
+        (look.blanks >> s) % 2 == 1,
+        ((look.zeros_decided | look.ones_decided) >> s) % 2 == 1,
+    )
+}
+
+// The number that three answers tell. By branches: with sums of digits every tick took 3% longer.
+fn code_with(one: bool, blank: bool, decided: bool) -> u8
+    ensures { λ r. ⌜ r ≡ cond blank 4 (cond one (cond decided 3 2) (cond decided 1 0)) ⌝ }
+{
+    if blank {
+        return 4;
+    }
+    if one {
+        if decided { 3 } else { 2 }
+    } else {
+        if decided { 1 } else { 0 }
+    }
 }

@@ -169,7 +169,7 @@ shifted w s l = shl-exact 1 s w (lit< tt) (omega arith) ∙ one-mul (2 ^ s)
 
 -- ---- sizes and the tests of soundness
 
-pub digit : (d : ℕ) → d < 2 → cond (eqb d 1) 1 0 ≡ d
+digit : (d : ℕ) → d < 2 → cond (eqb d 1) 1 0 ≡ d
 digit zero h = refl
 digit (suc zero) h = refl
 digit (suc (suc d)) h = absurd (omega arith)

@@ -18,7 +18,9 @@ status-of-requires : tie.Need-status-of-requires
 status-of-requires c κs = search needs
 
 returns : tie.Need-returns
-returns c = simp (c .status-of .ensures, c .before .value-of .ensures, c .before .before .code-by .ensures, c .before .before .before .lowest .ensures)
+returns c =
+    let code = c .before .before in
+    simp (c .status-of .ensures, c .before .value-of .ensures, code .code-by .ensures, code .before .lowest .ensures)
 
 pub foremost-spec : {M : Type 1} → statement M
 foremost-spec =
