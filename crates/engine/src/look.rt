@@ -285,7 +285,7 @@ fn code_by(look: Look, s: u8) -> u8
     )
 }
 
-// The number that three answers tell. By branches: with sums of digits every tick took 3% longer.
+// The number that three answers tell. By branches: with sums of digits the longest run took 3% more.
 fn code_with(one: bool, blank: bool, decided: bool) -> u8
     ensures { λ r. ⌜ r ≡ cond blank 4 (cond one (cond decided 3 2) (cond decided 1 0)) ⌝ }
 {
