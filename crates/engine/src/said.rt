@@ -1,7 +1,7 @@
 // What one ballot of a list says, its value and status in one number; and sets of those who say it.
 ghost use mathlib.Core.Path.{_≡_};
 ghost use mathlib.Core.Bool.{cond, _||_};
-ghost use Prim.Native.Nat.{ℕ, _<_, _≤_, _/_, _+_, _*_};
+ghost use Prim.Native.Nat.{ℕ, _<_, _≤_, _+_, _*_};
 ghost use lib.ListN.{length, getD};
 ghost use Rattle.rules.specs.Ballot.{ballotAt};
 ghost use Rattle.rules.specs.Heard.{member as memberOf, setOf};

@@ -2,7 +2,6 @@
 ghost use mathlib.Core.Path.{_≡_};
 ghost use Prim.Native.Nat.{_≤_};
 ghost use mathlib.Core.List.{_++_};
-ghost use lib.ListN.{length};
 ghost use Rattle.file.specs.Report.{word, valueWord, statusWord, decisionWord};
 ghost use Rattle.file.specs.Report.{firstLine, headLine, headLines, lastLine, refusalLine};
 ghost use Rattle.run.specs.Writing.{Held, withWord};

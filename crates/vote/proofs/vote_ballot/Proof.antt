@@ -1,8 +1,7 @@
-use mathlib.Core.Path.{sym, ap, _∙_}
+use mathlib.Core.Path.{sym, _∙_}
 use native.Mathlib.Omega.{arith}
 use borrow.Author.Tests.{not-true, not-false}
 use borrow.Author.Needs.{needs}
-use Rattle.rules.proofs.Meaning.Answers.{record-length}
 use Rattle.vote.proofs.Whole.{whole}
 use Rattle.vote.proofs.Entries.{send-no-record, send-refused, send-other-length, send-writes, send-five}
 use Rattle.vote.proofs.vote_ballot.Statement.{statement}

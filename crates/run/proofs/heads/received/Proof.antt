@@ -1,11 +1,7 @@
-use Prim.Native.Nat.{ℕ, _+_, _-_, _*_, _≤_, _<_}
-use mathlib.Core.Path.{_≡_, sym, ap, _∙_}
+use Prim.Native.Nat.{ℕ, _-_}
+use mathlib.Core.Path.{sym, ap, _∙_}
 use native.Mathlib.Omega.{arith}
-use lib.ListN.{length, take}
 use borrow.Author.Needs.{needs}
-use Rattle.rules.specs.Below.{first}
-use Rattle.rules.specs.Heard.{member}
-use Rattle.rules.proofs.Counting.Below.{first-le}
 use Rattle.run.specs.Survey.{receivedFrom}
 use Rattle.run.proofs.Surveyed.{all-received}
 use Rattle.run.proofs.Received.{Kept, none-kept, one-kept, all-kept, next-present, next-later}
