@@ -20,11 +20,10 @@ use Rattle.rules.specs.Ballot.{valueCode, statusCode, sameValue, ballotAt, brea
 use Rattle.rules.specs.Heard.{member, setOf, heard, says}
 use Rattle.rules.specs.Head.{sound}
 use Rattle.rules.specs.Tick.{ballots, leader, copying, moved, heardWith, added, gathered, ownOtherwise, contradicts}
-use Rattle.rules.proofs.Counting.Truth.{Means, false-not, not-false, means-same, means-as, means-self, means-and, means-or, means-eq, and-never, or-left-false, or-right-false}
+use Rattle.rules.proofs.Counting.Truth.{Means, false-not, not-false, means-same, means-as, means-self, means-and, means-or, means-eq, and-never, or-left-false, or-right-false, or-never}
 use Rattle.rules.proofs.Counting.Below.{NoneBefore, first-le, first-before, first-holds, first-at, some-here, some-not, not-some, means-some}
 use Rattle.rules.proofs.Counting.Sets.{member-none, member-setOf, means-member, member-or, setOf-lt, setOf-is, means-within}
 use Rattle.rules.specs.Given.{Sound}
-use Rattle.rules.proofs.OneTick.Hearing.{none-heard}
 use Rattle.rules.proofs.Meaning.Meanings.{means-sound}
 use Rattle.rules.proofs.OneTick.Leader.{means-ahead, Leads, leader-leads, leader-highest}
 use Rattle.rules.proofs.OneTick.Senders.{Moves, stays, copies, moves}
@@ -295,6 +294,12 @@ module _ (h : Head) (l : List ℕ) (look : Look) (is : Looks h l look) (end : lo
 small : (h : Head) → Sound h → (v : Value) → heard h v < 2 ^ 32
 small h a v =
     ltb-true (heard h v) (2 ^ 32) (means-within 32 (heard h v) .1 (λ s m. omega (arith, a .members v s m, a .heads .1)))
+
+-- a set with the senders of no ballots
+none-heard : (x : ℕ) (p : ℕ → ℕ → Bool) → x < 2 ^ 32 → x ≡ setOf 32 (λ s. member s x || some 0 (p s))
+none-heard x p small =
+    setOf-is 32 x _ small
+    (λ s l. sym (or-never (member s x)) ∙ ap (λ (t : Bool). member s x || t) (sym (some-not 0 (p s) (λ j b. absurd (omega arith)))))
 
 pub empty-heard : (h : Head) (l : List ℕ) → Sound h → length l ≡ 0 → h ≡ gathered h l
 unfolding gathered moved added heardWith

@@ -1,4 +1,3 @@
-pub mod Hearing
 pub mod Leader
 pub mod Senders
 pub mod Soundness
