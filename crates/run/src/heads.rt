@@ -92,7 +92,7 @@ pub(crate) fn ticked(
 }
 
 // Brings the ballots that are not lost to the front of the list, in sender order, and gives how many
-// bytes they take. Each moves to a place that is not behind its own, so none is written over unread.
+// bytes they take. Each goes to its own place or an earlier one, so none is written over unread.
 fn received(list: &mut [u8], lost: u32, n: usize) -> usize
     requires { ⌜ n ≤ headsMost ⌝ }
     requires { ⌜ length (now list) ≡ headsMost * ballotBytes ⌝ }
