@@ -47,12 +47,23 @@ pub(crate) fn first_own_otherwise(head: Head, ballots: &[u8], from: usize) -> us
     let count = ballots.len() / BALLOT_BYTES;
     let mut i = from;
     while i < count {
-        if own_otherwise(head, ballot_at(ballots, i)) {
+        if is_own_otherwise(head, ballots, i) {
             return i;
         }
         i += 1;
     }
     i
+}
+
+// Most ballots are of other senders, and not read further.
+fn is_own_otherwise(head: Head, ballots: &[u8], i: usize) -> bool
+    requires { ⌜ i < ballotsOf (now ballots) ⌝ }
+    ensures { λ r. ⌜ r ≡ ownOtherwise head (ballotAt (now (ballots .entry)) i) ⌝ }
+{
+    if sender_at(ballots, i) != head.own {
+        return false;
+    }
+    own_otherwise(head, ballot_at(ballots, i))
 }
 
 fn own_otherwise(head: Head, ballot: Ballot) -> bool
@@ -78,7 +89,6 @@ pub(crate) fn first_of(ballots: &[u8], phase: u16, sender: u8, before: usize) ->
     i
 }
 
-// Most ballots are of other senders, and not read further.
 fn is_of(ballots: &[u8], phase: u16, sender: u8, i: usize) -> bool
     requires { ⌜ i < ballotsOf (now ballots) ⌝ }
     ensures { λ r. ⌜ r ≡ isOf (now (ballots .entry)) phase sender i ⌝ }

@@ -1,10 +1,9 @@
 use Prim.Native.Nat.{_-_, _≤_}
-use mathlib.Core.Path.{sym, ap, _∙_}
-use Rattle.rules.proofs.Counting.Below.{NoneBefore, none-more, search-finds, search-ends}
+use mathlib.Core.Path.{sym, _∙_}
+use native.Mathlib.Omega.{arith}
 use Rattle.rules.specs.Ballot.{ballotAt}
 use Rattle.rules.specs.Tick.{ownOtherwise}
-use native.Mathlib.Omega.{arith}
-use Rattle.codes.proofs.Held.{ballot-there}
+use Rattle.rules.proofs.Counting.Below.{NoneBefore, none-more, search-finds, search-ends}
 use Rattle.engine.proofs.list.first_own_otherwise.Statement.{statement}
 use Rattle.engine.proofs.list.first_own_otherwise.Tie as tie
 
@@ -17,14 +16,11 @@ abbrev μ-loop : tie.MeasureT-loop
 loop-holds : tie.Need-loop-holds Inv-loop μ-loop
 loop-holds c = c .before .pre
 
-ballot-at-requires : tie.Need-ballot-at-requires Inv-loop μ-loop
-ballot-at-requires c κs = tt
-
-own-otherwise-requires : tie.Need-own-otherwise-requires Inv-loop μ-loop
-own-otherwise-requires c κs = tt
+is-own-otherwise-requires : tie.Need-is-own-otherwise-requires Inv-loop μ-loop
+is-own-otherwise-requires c κs = omega arith
 
 returns : tie.Need-returns Inv-loop μ-loop
-returns c = search-finds _ _ _ (c .before .before .before .before .loop .inv .1) (sym (c .before .own-otherwise .ensures ∙ ap (ownOtherwise (c .before .before .before .before .before .before .args .head)) (ballot-there (c .before .before .before .before .before .before .args .ballots .now) (c .before .before .before .before .loop .i) (c .before .before .ballot-at .ensures) (omega arith))) ∙ c .if1 .taken) (c .before .before .before .loop-test .taken)
+returns c = search-finds _ _ _ (c .before .before .before .loop .inv .1) (sym (c .before .is-own-otherwise .ensures) ∙ c .if1 .taken) (c .before .before .loop-test .taken)
 
 add-i : tie.Need-add-i Inv-loop μ-loop
 add-i c = omega arith
@@ -33,7 +29,7 @@ loop-less : tie.Need-loop-less Inv-loop μ-loop
 loop-less c = omega arith
 
 loop-again : tie.Need-loop-again Inv-loop μ-loop
-loop-again c = (omega arith, none-more (c .before .before .before .before .loop .inv .1) (sym (c .before .own-otherwise .ensures ∙ ap (ownOtherwise (c .before .before .before .before .before .before .args .head)) (ballot-there (c .before .before .before .before .before .before .args .ballots .now) (c .before .before .before .before .loop .i) (c .before .before .ballot-at .ensures) (omega arith))) ∙ c .if1 .left))
+loop-again c = (omega arith, none-more (c .before .before .before .loop .inv .1) (sym (c .before .is-own-otherwise .ensures) ∙ c .if1 .left))
 
 returns-2 : tie.Need-returns-2 Inv-loop μ-loop
 returns-2 c = search-ends _ _ _ (c .before .loop .inv .1) (c .before .loop .inv .0) (c .loop-test .left)
@@ -45,8 +41,7 @@ first-own-otherwise-spec =
     Inv-loop
     μ-loop
     loop-holds
-    ballot-at-requires
-    own-otherwise-requires
+    is-own-otherwise-requires
     returns
     add-i
     loop-less
