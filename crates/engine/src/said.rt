@@ -88,7 +88,8 @@ pub(crate) fn statuses_of(class: Class) -> u8
 pub(crate) fn barred_from(head: Head, phase: u16) -> [u32; 5]
     requires { ⌜ head .own < 32 ⌝ }
     requires { ⌜ head .phase ≤ phase ⌝ }
-    ensures { λ r. ⌜ (length r ≡ 5) × ((c : ℕ) → c < 5 → getD r c 0 ≡ barredFrom head phase c) ⌝ }
+    ensures { λ r. ⌜ length r ≡ 5 ⌝ }
+    ensures { λ r. ⌜ ((c : ℕ) → c < 5 → getD r c 0 ≡ barredFrom head phase c) ⌝ }
 {
     let own = alone(head.own);
     if phase != head.phase {

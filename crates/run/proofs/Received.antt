@@ -67,10 +67,15 @@ module _ (ballots list : List ℕ) (lost n from left k at : ℕ) (small : n ≤ 
       not-false (member s lost) (sym (ap (λ (t : Bool). t && not (member s lost)) (le-leb from s a)) ∙ e)
 
   left-from-next : Left lost k left
-  left-from-next s h = elim (decLt s k) [ yes l ↦ not-left s l ∙ sym (rw (lt-leb k s l) refl) | no l ↦ is-left s h ∙ rw (le-leb from s (omega (arith, l, not-below)), le-leb k s (omega (arith, l))) refl ]
+  left-from-next s h = elim (decLt s k) [
+    | yes l ↦ not-left s l ∙ sym (rw (lt-leb k s l) refl)
+    | no l ↦ is-left s h
+        ∙ rw (le-leb from s (omega (arith, l, not-below)), le-leb k s (omega (arith, l))) refl
+  ]
 
   -- on to the next head that is not lost
-  pub to-next : at ≤ from * 5 → length list ≡ 160 → take at list ≡ receivedFrom ballots lost from → drop (from * 5) list ≡ drop (from * 5) ballots
+  pub to-next : at ≤ from * 5 → length list ≡ 160 → take at list ≡ receivedFrom ballots lost from
+      → drop (from * 5) list ≡ drop (from * 5) ballots
       → Kept ballots lost n list left k at
   to-next short long so-far rest =
       let m = min k n in
@@ -78,42 +83,55 @@ module _ (ballots list : List ℕ) (lost n from left k at : ℕ) (small : n ≤ 
         omega (arith, not-below),
         long,
         so-far ∙ sym (skipped ballots lost from m (omega (arith, not-below)) (λ s a b. gone s a (omega arith))),
-        ap (λ (x : ℕ). drop x list) (sym more) ∙ sym (drop-drop ((m - from) * 5) (from * 5) list) ∙ ap (drop ((m - from) * 5)) rest
+        ap (λ (x : ℕ). drop x list) (sym more) ∙ sym (drop-drop ((m - from) * 5) (from * 5) list)
+            ∙ ap (drop ((m - from) * 5)) rest
             ∙ drop-drop ((m - from) * 5) (from * 5) ballots ∙ ap (λ (x : ℕ). drop x ballots) more,
         left-from-next,
         next,
       )
 
 -- before the first turn
-pub none-kept : (ballots : List ℕ) (lost n left k : ℕ) → n ≤ 32 → length ballots ≡ 160 → left ≡ setOf 32 (λ s. not (member s lost))
+pub none-kept : (ballots : List ℕ) (lost n left k : ℕ) → n ≤ 32 → length ballots ≡ 160
+    → left ≡ setOf 32 (λ s. not (member s lost))
     → k ≡ first 32 (λ s. member s left) → Kept ballots lost n ballots left k 0
 unfolding receivedFrom
 none-kept ballots lost n left k small long is next =
     to-next ballots ballots lost n 0 left k 0 small (omega arith)
-    (λ s h. ap (member s) is ∙ member-setOf 32 (λ s. not (member s lost)) s h ∙ sym (rw (le-leb 0 s (omega arith)) refl)) next (omega arith) long refl refl
+    (λ s h. ap (member s) is ∙ member-setOf 32 (λ s. not (member s lost)) s h
+    ∙ sym (rw (le-leb 0 s (omega arith)) refl)) next (omega arith) long refl refl
 
 -- the next head is there, and the one after it is behind it
-pub next-present : (ballots list : List ℕ) (lost n left k at : ℕ) → n ≤ 32 → Kept ballots lost n list left k at → k < n → member k left ≡ true
+pub next-present : (ballots list : List ℕ) (lost n left k at : ℕ) → n ≤ 32 → Kept ballots lost n list left k at → k < n
+    → member k left ≡ true
 next-present ballots list lost n left k at small kept less =
     ap (λ (x : ℕ). member x left) (kept .5) ∙ first-holds 32 (λ s. member s left) (omega (arith, kept .5))
 
-pub next-later : (left left′ k k′ : ℕ) → left′ ≡ setOf 32 (λ t. member t left && not (eqb k t)) → k′ ≡ first 32 (λ s. member s left′)
+pub next-later : (left left′ k k′ : ℕ) → left′ ≡ setOf 32 (λ t. member t left && not (eqb k t))
+    → k′ ≡ first 32 (λ s. member s left′)
     → k ≡ first 32 (λ s. member s left) → {n : ℕ} → k < n → n ≤ 32 → k < k′
-next-later left left′ k k′ is next′ next less small = elim (decLt k k′) [ yes l ↦ l | no l ↦ never (sym (not-there l) ∙ there l) ]
+next-later left left′ k k′ is next′ next less small = elim (decLt k k′) [
+  | yes l ↦ l
+  | no l ↦ never (sym (not-there l) ∙ there l)
+]
   where
     there : (k < k′ → ⊥) → member k′ left′ ≡ true
-    there l = ap (λ (x : ℕ). member x left′) next′ ∙ first-holds 32 (λ s. member s left′) (omega (arith, next′, l, less, small))
+    there l = ap (λ (x : ℕ). member x left′) next′
+        ∙ first-holds 32 (λ s. member s left′) (omega (arith, next′, l, less, small))
 
     not-there : (k < k′ → ⊥) → member k′ left′ ≡ false
-    not-there l = ap (member k′) is ∙ member-setOf 32 (λ t. member t left && not (eqb k t)) k′ (omega (arith, l, less, small)) ∙ go (ℕ-discrete k k′)
+    not-there l = ap (member k′) is
+        ∙ member-setOf 32 (λ t. member t left && not (eqb k t)) k′ (omega (arith, l, less, small))
+        ∙ go (ℕ-discrete k k′)
       where
         go : Dec (k ≡ k′) → member k′ left && not (eqb k k′) ≡ false
         go (yes e) = rw (eq-eqb k k′ e) (and-never (member k′ left))
         go (no e) = rw (first-before 32 (λ s. member s left) k′ (omega (arith, next, l, e))) refl
 
 -- a turn
-pub one-kept : (ballots list after five : List ℕ) (lost n left left′ k k′ at : ℕ) → n ≤ 32 → Kept ballots lost n list left k at → k < n
-    → five ≡ take 5 (drop (k * 5) list) → after ≡ sets list at five → left′ ≡ setOf 32 (λ t. member t left && not (eqb k t))
+pub one-kept : (ballots list after five : List ℕ) (lost n left left′ k k′ at : ℕ) → n ≤ 32
+    → Kept ballots lost n list left k at → k < n
+    → five ≡ take 5 (drop (k * 5) list) → after ≡ sets list at five
+    → left′ ≡ setOf 32 (λ t. member t left && not (eqb k t))
     → k′ ≡ first 32 (λ s. member s left′) → Kept ballots lost n after left′ k′ (at + 5)
 unfolding receivedFrom
 one-kept ballots list after five lost n left left′ k k′ at small kept less five-is after-is left-is next =
@@ -137,10 +155,13 @@ one-kept ballots list after five lost n left left′ k k′ at small kept less f
     not-lost : member k lost ≡ false
     not-lost =
         not-true (member k lost)
-        (sym (ap (λ (t : Bool). t && not (member k lost)) (le-leb k k (omega arith))) ∙ sym (kept .4 k (omega arith)) ∙ next-present ballots list lost n left k at small kept less)
+        (sym (ap (λ (t : Bool). t && not (member k lost)) (le-leb k k (omega arith))) ∙ sym (kept .4 k (omega arith))
+        ∙ next-present ballots list lost n left k at small kept less)
 
     five-there : five ≡ fiveAt ballots k
-    five-there = five-is ∙ ap (take 5) (ap (λ (x : ℕ). drop (x * 5) list) (sym here) ∙ kept .3 ∙ ap (λ (x : ℕ). drop (x * 5) ballots) here)
+    five-there = five-is
+        ∙ ap (take 5) (ap (λ (x : ℕ). drop (x * 5) list) (sym here) ∙ kept .3
+        ∙ ap (λ (x : ℕ). drop (x * 5) ballots) here)
 
     so-far : take (at + 5) after ≡ receivedFrom ballots lost (suc k)
     so-far =
@@ -153,15 +174,21 @@ one-kept ballots list after five lost n left left′ k k′ at small kept less f
         let more : k * 5 + 5 ≡ suc k * 5 = omega arith in
         ap (drop (suc k * 5)) after-is ∙ sets-behind five list (suc k * 5) at (omega (arith, five-long, short))
         ∙ ap (λ (x : ℕ). drop x list) (sym more) ∙ sym (drop-drop 5 (k * 5) list)
-        ∙ ap (drop 5) (ap (λ (x : ℕ). drop (x * 5) list) (sym here) ∙ kept .3 ∙ ap (λ (x : ℕ). drop (x * 5) ballots) here)
+        ∙ ap (drop 5) (ap (λ (x : ℕ). drop (x * 5) list) (sym here) ∙ kept .3
+        ∙ ap (λ (x : ℕ). drop (x * 5) ballots) here)
         ∙ drop-drop 5 (k * 5) ballots ∙ ap (λ (x : ℕ). drop x ballots) more
 
     still-left : Left lost (suc k) left′
-    still-left s h = ap (member s) left-is ∙ member-setOf 32 (λ t. member t left && not (eqb k t)) s h ∙ go (ℕ-discrete k s)
+    still-left s h = ap (member s) left-is ∙ member-setOf 32 (λ t. member t left && not (eqb k t)) s h
+        ∙ go (ℕ-discrete k s)
       where
         go : Dec (k ≡ s) → member s left && not (eqb k s) ≡ leb (suc k) s && not (member s lost)
         go (yes e) = rw (eq-eqb k s e, lt-leb (suc k) s (omega (arith, e))) (and-never (member s left))
-        go (no e) = rw (ne-eqb k s e) (and-always (member s left) ∙ kept .4 s h ∙ elim (decLt s k) [ yes l ↦ rw (lt-leb k s l, lt-leb (suc k) s (omega (arith, l))) refl | no l ↦ rw (le-leb k s (omega (arith, l)), le-leb (suc k) s (omega (arith, l, e))) refl ])
+        go (no e) = rw (ne-eqb k s e) (and-always (member s left) ∙ kept .4 s h
+            ∙ elim (decLt s k) [
+              | yes l ↦ rw (lt-leb k s l, lt-leb (suc k) s (omega (arith, l))) refl
+              | no l ↦ rw (le-leb k s (omega (arith, l)), le-leb (suc k) s (omega (arith, l, e))) refl
+            ])
 
 -- after the last
 pub all-kept : (ballots list : List ℕ) (lost n left k at : ℕ) → Kept ballots lost n list left k at → n ≤ k

@@ -48,7 +48,8 @@ pub(crate) fn last_line(text: Text, outcome: Outcome) -> Text
 
 // One line for each of the first n heads.
 pub(crate) fn head_lines(text: Text, heads: [Head; 32], n: usize) -> Text
-    requires { ⌜ (n ≤ 32) × Held text ⌝ }
+    requires { ⌜ n ≤ 32 ⌝ }
+    requires { ⌜ Held text ⌝ }
     ensures { λ r. ⌜ r ≡ withWord text (headLines n heads) ⌝ }
     ensures { λ r. ⌜ Held r ⌝ }
 {
