@@ -1,8 +1,8 @@
 // A vector to its answer. Numbers are 4 bytes, high byte first; a head is its record of 20 bytes.
 //
-//   R n ballot           read             the number, and the ballot's five bytes
+//   R n ballot           read             the number, the index, and the ballot's five bytes
 //   S n own proposal     start            the number, and the head's record
-//   T head coin list     tick             the number, and the head's record
+//   T head coin list     tick             the number, the index, and the head's record
 //   B head               send             the number, and the ballot's five bytes
 //
 // The small letters, the entries for C, are in `entry`.
@@ -12,6 +12,7 @@ use crate::entry::answer_vote_tick;
 use crate::number::number_at;
 use crate::print::malformed;
 use crate::print::print_answer;
+use crate::print::print_indexed;
 use codes::BALLOT_BYTES;
 use codes::RECORD_BYTES;
 use codes::ballot_bytes;
@@ -44,8 +45,10 @@ fn answer_read(bytes: &[u8]) {
     }
     let read = engine::read(number_at(bytes, 0), &bytes[4..]);
     match read {
-        Read::Accepted(ballot) => print_answer(b'R', 0, &ballot_bytes(ballot)),
-        Read::Refused(number) => print_answer(b'R', number as u32, &[0; BALLOT_BYTES]),
+        Read::Accepted(ballot) => print_indexed(b'R', 0, 0, &ballot_bytes(ballot)),
+        Read::Refused { number, index } => {
+            print_indexed(b'R', number as u32, index, &[0; BALLOT_BYTES])
+        }
     }
 }
 
@@ -92,5 +95,5 @@ fn tick_head(head_record: &[u8], list: &[u8], coin: u32) {
     }
     let ticked = engine::tick(head_at(head_record), list, coin);
     let head = ticked.head;
-    print_answer(b'T', ticked.number as u32, &record_of(head));
+    print_indexed(b'T', ticked.number as u32, ticked.index, &record_of(head));
 }

@@ -1,7 +1,7 @@
 // The vectors for the three entries for C, whose records and buffers may have any length.
 //
 //   s n own proposal record        vote_start     the number, and the record after the call
-//   t length record coin list      vote_tick      the number, and the record after the call
+//   t length record coin list      vote_tick      the number, the index, and the record after the call
 //   b length record buffer         vote_ballot    the number, and the buffer after the call
 //
 // Numbers are 4 bytes, a length is one byte. `bytes` and `lent` are the same bytes twice: a call
@@ -11,6 +11,7 @@ use crate::number::byte_at;
 use crate::number::number_at;
 use crate::print::malformed;
 use crate::print::print_answer;
+use crate::print::print_indexed;
 
 pub(crate) fn answer_vote_start(bytes: &[u8], lent: &mut [u8]) {
     if lent.len() < 12 {
@@ -61,9 +62,11 @@ fn start_record(head_record: &mut [u8], n: u32, own: u32, proposal: u32) {
     print_answer(b's', number, head_record);
 }
 
+// The index is lent with all bits set, so that a call that leaves it alone shows.
 fn tick_record(head_record: &mut [u8], list: &[u8], coin: u32) {
-    let number = vote::vote_tick(head_record, list, coin);
-    print_answer(b't', number, head_record);
+    let mut index: usize = 18446744073709551615;
+    let number = vote::vote_tick(head_record, list, coin, &mut index);
+    print_indexed(b't', number, index, head_record);
 }
 
 fn write_ballot(head_record: &[u8], buffer: &mut [u8]) {

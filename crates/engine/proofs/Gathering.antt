@@ -19,9 +19,9 @@ use Rattle.rules.specs.Below.{first, some}
 use Rattle.rules.specs.Ballot.{valueCode, statusCode, sameValue, ballotAt, breaksRule}
 use Rattle.rules.specs.Heard.{member, setOf, heard, says}
 use Rattle.rules.specs.Head.{sound}
-use Rattle.rules.specs.Tick.{ballots, leader, copying, moved, heardWith, added, gathered, ownOtherwise, contradicts}
+use Rattle.rules.specs.Tick.{ballots, leader, copying, moved, heardWith, added, gathered, ownOtherwise, contradicts, offender}
 use Rattle.rules.proofs.Counting.Truth.{Means, false-not, not-false, means-same, means-as, means-self, means-and, means-or, means-eq, and-never, or-left-false, or-right-false, or-never}
-use Rattle.rules.proofs.Counting.Below.{NoneBefore, first-le, first-before, first-holds, first-at, some-here, some-not, not-some, means-some}
+use Rattle.rules.proofs.Counting.Below.{NoneBefore, first-le, first-before, first-holds, first-at, some-here, some-not, not-some, means-some, search-finds}
 use Rattle.rules.proofs.Counting.Sets.{member-none, member-setOf, means-member, member-or, setOf-lt, setOf-is, means-within}
 use Rattle.rules.specs.Given.{Sound}
 use Rattle.rules.proofs.Meaning.Meanings.{means-sound}
@@ -88,28 +88,36 @@ module _ (h : Head) (l : List ℕ) where
         some-not (ballots l) (contradicts h l) (λ j b. not-8 j (none j b)),
       )
 
-  pub list-6 : some (ballots l) (breaksRule (h .n) l) ≡ true
-      → _≡_ {A = Ticked} (record { number = 6; head = h }) (listened h l)
-  unfolding listened listNumber firstThatApplies
-  list-6 e = simp e
+  pub list-6 : (index : ℕ) → index ≡ first (ballots l) (breaksRule (h .n) l) → index < ballots l
+      → _≡_ {A = Ticked} (record { number = 6; index = index; head = h }) (listened h l)
+  unfolding listened listNumber offender firstThatApplies
+  list-6 index is b = simp (found _ _ _ is b, is)
 
-  pub list-7 : some (ballots l) (breaksRule (h .n) l) ≡ false
-      → some (ballots l) (λ i. ownOtherwise h (ballotAt l i)) ≡ true
-      → _≡_ {A = Ticked} (record { number = 7; head = h }) (listened h l)
-  unfolding listened listNumber firstThatApplies
-  list-7 e q = simp (e, q)
+  pub list-7 : (index : ℕ) → some (ballots l) (breaksRule (h .n) l) ≡ false
+      → index ≡ first (ballots l) (λ i. ownOtherwise h (ballotAt l i)) → index < ballots l
+      → _≡_ {A = Ticked} (record { number = 7; index = index; head = h }) (listened h l)
+  unfolding listened listNumber offender firstThatApplies
+  list-7 index e is b = simp (e, found _ _ _ is b, is)
 
   -- one is, but by neither 6 nor 7
-  pub list-8 : (at : ℕ) → at < ballots l → refused h l at ≡ true → some (ballots l) (breaksRule (h .n) l) ≡ false
-      → some (ballots l) (λ i. ownOtherwise h (ballotAt l i)) ≡ false
-      → _≡_ {A = Ticked} (record { number = 8; head = h }) (listened h l)
-  unfolding refused listened listNumber firstThatApplies
-  list-8 at b r e q =
-      let here : contradicts h l at ≡ true = left (breaksRule (h .n) l at) (ownOtherwise h (ballotAt l at)) (contradicts h l at) (not-some (ballots l) (breaksRule (h .n) l) e at b) (not-some (ballots l) (λ i. ownOtherwise h (ballotAt l i)) q at b) r in
-      simp (e, q, some-here (ballots l) (contradicts h l) at b here)
-    where
-      left : (x y z : Bool) → x ≡ false → y ≡ false → x || (y || z) ≡ true → z ≡ true
-      left x y z p q r = sym (ap₂ (λ (s t : Bool). s || (t || z)) p q) ∙ r
+  module _ (at : ℕ) (is : at ≡ first (ballots l) (refused h l)) (b : at < ballots l) (e : some (ballots l) (breaksRule (h .n) l) ≡ false)
+      (q : some (ballots l) (λ i. ownOtherwise h (ballotAt l i)) ≡ false) where
+    contradicts-here : contradicts h l at ≡ true
+    unfolding refused
+    contradicts-here =
+        left (breaksRule (h .n) l at) (ownOtherwise h (ballotAt l at)) (contradicts h l at) (not-some (ballots l) (breaksRule (h .n) l) e at b) (not-some (ballots l) (λ i. ownOtherwise h (ballotAt l i)) q at b) (first-refused h l at is b)
+      where
+        left : (x y z : Bool) → x ≡ false → y ≡ false → x || (y || z) ≡ true → z ≡ true
+        left x y z p q r = sym (ap₂ (λ (s t : Bool). s || (t || z)) p q) ∙ r
+
+    -- and none before it gives 8
+    first-contradicts : at ≡ first (ballots l) (contradicts h l)
+    first-contradicts =
+        search-finds (ballots l) at (contradicts h l) (λ j a. not-8 j (before-first h l at is j a)) contradicts-here b
+
+    pub list-8 : _≡_ {A = Ticked} (record { number = 8; index = at; head = h }) (listened h l)
+    unfolding listened listNumber offender firstThatApplies
+    list-8 = simp (e, q, found _ _ _ first-contradicts b, first-contradicts)
 
 -- ---- steps 1 and 2, by the look
 

@@ -12,12 +12,13 @@ use Rattle.rules.specs.Number.{firstThatApplies}
 use Rattle.rules.specs.Below.{some}
 use Rattle.rules.specs.Ballot.{ballotAt, breaksRule}
 use Rattle.rules.specs.Head.{sound}
-use Rattle.rules.specs.Tick.{ballots, gathered, stepped, notList, ownOtherwise, contradicts, bothHeard, phasesEnd, decidesOtherwise, quorum, risen, settled, tickNumber, tickOf}
+use Rattle.rules.specs.Tick.{ballots, gathered, stepped, notList, ownOtherwise, contradicts, bothHeard, phasesEnd, decidesOtherwise, quorum, risen, settled, tickNumber, offender, tickIndex, tickOf}
 use Rattle.engine.specs.Look.{listNumber, listened, endNumber, ended}
 
 -- none applies, and this is the head after steps 1 and 2
-pub list-accepted : (h : Head) (l : List ℕ) (g : Head) → listNumber h l ≡ 0 → g ≡ gathered h l → _≡_ {A = Ticked} (record { number = 0; head = g }) (listened h l)
-unfolding listened
+pub list-accepted : (h : Head) (l : List ℕ) (g : Head) → listNumber h l ≡ 0 → g ≡ gathered h l
+    → _≡_ {A = Ticked} (record { number = 0; index = 0; head = g }) (listened h l)
+unfolding listened offender
 list-accepted h l g e q = simp (e, q)
 
 record Clear (h : Head) (l : List ℕ) (r : Ticked) : Type 0 where
@@ -45,13 +46,19 @@ list-clear h l r e z =
     none false false true q = absurd (omega arith)
     none false false false q = (refl, refl, refl)
 
+-- a number other than 0, the ballot that it names and the head as it came, whatever an accepted tick would leave
+refused-same : (h : Head) (l : List ℕ) (a b : ℕ) (g k : Head) → a ≡ b → (a ≡ 0 → ⊥)
+    → _≡_ {A = Ticked} (record { number = a; index = offender a h l; head = cond (eqb a 0) g h }) (record { number = b; index = offender b h l; head = cond (eqb b 0) k h })
+refused-same h l a b g k e n = simp (← e, ne-eqb a 0 n)
+
 -- another number is the tick's where 3 to 5 do not apply
-pub list-refused : (h : Head) (l : List ℕ) (coin : ℕ) (r : Ticked) → sound h ≡ true → ltb 1 coin ≡ false → notList l ≡ false → r ≡ listened h l → (r .number ≡ 0 → ⊥) → _≡_ {A = Ticked} (record { number = r .number; head = h }) (tickOf h l coin)
-unfolding tickOf tickNumber listened listNumber endNumber firstThatApplies
+pub list-refused : (h : Head) (l : List ℕ) (coin : ℕ) (r : Ticked) → sound h ≡ true → ltb 1 coin ≡ false → notList l ≡ false
+    → r ≡ listened h l → (r .number ≡ 0 → ⊥) → r ≡ tickOf h l coin
+unfolding tickOf tickIndex tickNumber listened listNumber endNumber firstThatApplies
 list-refused h l coin r s t u e n =
-    let list : r .number ≡ listNumber h l = ap (λ (t : Ticked). t .number) e in
-    let number : r .number ≡ tickNumber h l coin = list ∙ same (some (ballots l) (breaksRule (h .n) l)) (some (ballots l) (λ i. ownOtherwise h (ballotAt l i))) (some (ballots l) (contradicts h l)) (endNumber (gathered h l) coin) (λ z. n (list ∙ z)) ∙ sym (simp (s, t, u)) in
-    simp (← number, ne-eqb (r .number) 0 n)
+    let some-number : listNumber h l ≡ 0 → ⊥ = λ z. n (ap (λ (t : Ticked). t .number) e ∙ z) in
+    let number : listNumber h l ≡ tickNumber h l coin = same (some (ballots l) (breaksRule (h .n) l)) (some (ballots l) (λ i. ownOtherwise h (ballotAt l i))) (some (ballots l) (contradicts h l)) (endNumber (gathered h l) coin) some-number ∙ sym (simp (s, t, u)) in
+    e ∙ refused-same h l (listNumber h l) (tickNumber h l coin) _ _ number some-number
   where
     same : (a b c : Bool) (later : ℕ) → (_≡_ {A = ℕ} (cond a 6 (cond b 7 (cond c 8 0))) 0 → ⊥) → _≡_ {A = ℕ} (cond a 6 (cond b 7 (cond c 8 0))) (cond a 6 (cond b 7 (cond c 8 later)))
     same true b c later m = refl
@@ -59,29 +66,38 @@ list-refused h l coin r s t u e n =
     same false false true later m = refl
     same false false false later m = absurd (m refl)
 
+-- the numbers after those name no ballot
+end-names-none : (h : Head) (l : List ℕ) (a b c : Bool) → offender (cond a 9 (cond b 10 (cond c 11 0))) h l ≡ 0
+unfolding offender
+end-names-none h l true b c = refl
+end-names-none h l false true c = refl
+end-names-none h l false false true = refl
+end-names-none h l false false false = refl
+
 -- where 3 to 8 do not apply, a tick goes on with the head after steps 1 and 2
-pub list-heard : (h : Head) (l : List ℕ) (coin : ℕ) (r : Ticked) → sound h ≡ true → ltb 1 coin ≡ false → notList l ≡ false → r ≡ listened h l → r .number ≡ 0 → ended h (r .head) coin ≡ tickOf h l coin
-unfolding tickOf tickNumber ended endNumber firstThatApplies
+pub list-heard : (h : Head) (l : List ℕ) (coin : ℕ) (r : Ticked) → sound h ≡ true → ltb 1 coin ≡ false → notList l ≡ false
+    → r ≡ listened h l → r .number ≡ 0 → ended h (r .head) coin ≡ tickOf h l coin
+unfolding tickOf tickIndex tickNumber ended endNumber firstThatApplies
 list-heard h l coin r s t u e z =
     let clear = list-clear h l r e z in
-    simp (s, t, u, clear .stands, clear .own, clear .once, ← clear .heard)
+    simp (s, t, u, clear .stands, clear .own, clear .once, ← clear .heard, end-names-none h l (bothHeard (r .head)) (phasesEnd (r .head)) (decidesOtherwise (stepped (r .head) coin)))
 
 -- ---- what is left of it
 
-pub ends-9 : (h g : Head) (coin : ℕ) → bothHeard g ≡ true → _≡_ {A = Ticked} (record { number = 9; head = h }) (ended h g coin)
+pub ends-9 : (h g : Head) (coin : ℕ) → bothHeard g ≡ true → _≡_ {A = Ticked} (record { number = 9; index = 0; head = h }) (ended h g coin)
 unfolding ended endNumber firstThatApplies
 ends-9 h g coin q = simp q
 
-pub ends-10 : (h g : Head) (coin : ℕ) → bothHeard g ≡ false → phasesEnd g ≡ true → _≡_ {A = Ticked} (record { number = 10; head = h }) (ended h g coin)
+pub ends-10 : (h g : Head) (coin : ℕ) → bothHeard g ≡ false → phasesEnd g ≡ true → _≡_ {A = Ticked} (record { number = 10; index = 0; head = h }) (ended h g coin)
 unfolding ended endNumber firstThatApplies
 ends-10 h g coin q w = simp (q, w)
 
 pub ends : (h g : Head) (coin : ℕ) (x : Head) → bothHeard g ≡ false → (phasesEnd g ≡ false) × (x ≡ stepped g coin)
-    → cond (decidesOtherwise x) (record { number = 11; head = h }) (record { number = 0; head = settled x }) ≡ ended h g coin
+    → cond (decidesOtherwise x) (record { number = 11; index = 0; head = h }) (record { number = 0; index = 0; head = settled x }) ≡ ended h g coin
 unfolding ended endNumber firstThatApplies
 ends h g coin x q w = simp (q, w .0, ← w .1, go (decidesOtherwise x))
   where
-    go : (t : Bool) → _≡_ {A = Ticked} (cond t (record { number = 11; head = h }) (record { number = 0; head = settled x })) (record { number = cond t 11 0; head = cond (eqb (cond t 11 0) 0) (settled x) h })
+    go : (t : Bool) → _≡_ {A = Ticked} (cond t (record { number = 11; index = 0; head = h }) (record { number = 0; index = 0; head = settled x })) (record { number = cond t 11 0; index = 0; head = cond (eqb (cond t 11 0) 0) (settled x) h })
     go true = refl
     go false = refl
 

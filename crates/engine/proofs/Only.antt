@@ -13,7 +13,7 @@ use Rattle.engine.proofs.head.start.Reads as start
 use Rattle.engine.proofs.ticks.tick.Reads as tick
 
 pub read-only : (κs : _) (a : _) (r r′ : _) (s s′ : _) → read.Post κs a r s → read.Post κs a r′ s′ → r ≡ r′
-read-only κs a r r′ s s′ p q = one-answer _ _ r r′ (p .0) (p .1) (q .0) (q .1)
+read-only κs a r r′ s s′ p q = one-answer _ _ r r′ (p .0) (p .1 .0) (p .1 .1) (q .0) (q .1 .0) (q .1 .1)
 
 pub start-only : (κs : _) (a : _) (r r′ : _) (s s′ : _) → start.Post κs a r s → start.Post κs a r′ s′ → r ≡ r′
 start-only κs a r r′ s s′ p q = only p q

@@ -17,7 +17,7 @@ use Rattle.rules.specs.Sizes.{headsMost}
 use Rattle.rules.specs.Below.{first, some}
 use Rattle.rules.specs.Ballot.{valueCode, valueOf, statusCode, statusOf, ballotAt, breaksRule}
 use Rattle.rules.specs.Heard.{member, setOf}
-use Rattle.rules.specs.Tick.{ballots, ownOtherwise, heldOtherwise, contradicts, gathered, bothHeard, phasesEnd, decidesOtherwise, stepped, settled}
+use Rattle.rules.specs.Tick.{ballots, ownOtherwise, heldOtherwise, contradicts, gathered, bothHeard, phasesEnd, decidesOtherwise, stepped, settled, offender}
 use Rattle.engine.specs.declared.look.Look.{Look}
 
 -- the numbers that a list of ballots gives: 6 to 8
@@ -29,9 +29,11 @@ listNumber h l =
     ∷ (8 when some (ballots l) (contradicts h l))
     ∷ [])
 
--- one of them, or the head after steps 1 and 2
+-- one of them with the ballot that it names, or the head after steps 1 and 2
 unfoldable pub listened : Head → List ℕ → Ticked
-listened h l = record { number = listNumber h l; head = cond (eqb (listNumber h l) 0) (gathered h l) h }
+listened h l =
+    let number = listNumber h l in
+    record { number = number; index = offender number h l; head = cond (eqb number 0) (gathered h l) h }
 
 -- the numbers after those, of the head after steps 1 and 2: 9 to 11
 unfoldable pub endNumber : Head → ℕ → ℕ
@@ -42,7 +44,8 @@ endNumber g coin =
 -- one of them, with the head as it came, or the head after steps 3 and 4
 unfoldable pub ended : Head → Head → ℕ → Ticked
 ended h g coin =
-    record { number = endNumber g coin; head = cond (eqb (endNumber g coin) 0) (settled (stepped g coin)) h }
+    let number = endNumber g coin in
+    record { number = number; index = 0; head = cond (eqb number 0) (settled (stepped g coin)) h }
 
 -- ---- one ballot
 

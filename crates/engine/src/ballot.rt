@@ -2,7 +2,7 @@
 ghost use mathlib.Core.Path.{_≡_};
 ghost use Prim.Native.Nat.{_<_};
 ghost use Rattle.rules.specs.Ballot.{classOf, allowed as allowedOf, obeys as obeysOf, breaksRule};
-ghost use Rattle.rules.specs.Ballot.{readNumber, readBallot, numberRead, ballotRead};
+ghost use Rattle.rules.specs.Ballot.{readNumber, readIndex, readBallot, numberRead, indexRead, ballotRead};
 ghost use Rattle.rules.specs.Tick.{ballots as ballotsOf};
 use codes::BALLOT_BYTES;
 use codes::PHASE_HIGH;
@@ -19,16 +19,26 @@ use rules::Read;
 // Reads one ballot of a vote of n heads.
 pub fn read(n: u32, bytes: &[u8]) -> Read
     ensures { λ r. ⌜ numberRead r ≡ readNumber n (now (bytes .entry)) ⌝ }
+    ensures { λ r. ⌜ indexRead r ≡ readIndex n (now (bytes .entry)) ⌝ }
     ensures { λ r. ⌜ ballotRead r ≡ readBallot n (now (bytes .entry)) ⌝ }
 {
     if not_heads(n) {
-        return Read::Refused(1);
+        return Read::Refused {
+            number: 1,
+            index: 0,
+        };
     }
     if bytes.len() != BALLOT_BYTES {
-        return Read::Refused(5);
+        return Read::Refused {
+            number: 5,
+            index: 0,
+        };
     }
     if breaks_rule(n, bytes, 0) {
-        return Read::Refused(6);
+        return Read::Refused {
+            number: 6,
+            index: 0,
+        };
     }
     Read::Accepted(ballot_at(bytes, 0))
 }

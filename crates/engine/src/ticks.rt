@@ -39,9 +39,8 @@ pub fn tick(head: Head, ballots: &[u8], coin: u32) -> Ticked
         return answer(5, head);
     }
     let after = listened(head, ballots);
-    let number = after.number;
-    if number != 0 {
-        return answer(number, head);
+    if after.number != 0 {
+        return after;
     }
     let gathered = after.head;
     ended(head, gathered, coin as u8)
@@ -68,7 +67,8 @@ fn ended(head: Head, gathered: Head, coin: u8) -> Ticked
 fn finished(head: Head, end: Head) -> Ticked
     ensures { λ r.
         ⌜ r ≡ cond (decidesOtherwise end)
-        (record { number = 11; head = head }) (record { number = 0; head = settledOf end }) ⌝ }
+        (record { number = 11; index = 0; head = head })
+        (record { number = 0; index = 0; head = settledOf end }) ⌝ }
 {
     if decides_otherwise(end) {
         return answer(11, head);
@@ -92,27 +92,38 @@ fn listened(head: Head, ballots: &[u8]) -> Ticked
     answer(0, shown(moved(head, look), look))
 }
 
-// Of a list whose first refused ballot is at that index: 6 or 7 where one there or later gives it, else 8.
+// Of a list whose first refused ballot is at that index: 6 or 7 where one there or later gives it, with
+// the index of the first such; else 8, and it is this one.
 fn refused(head: Head, ballots: &[u8], at: usize) -> Ticked
     requires { ⌜ at < ballotsOf (now ballots) ⌝ }
     requires { ⌜ at ≡ first (ballotsOf (now ballots)) (refusedOf head (now ballots)) ⌝ }
     ensures { λ r. ⌜ r ≡ listenedOf head (now (ballots .entry)) ⌝ }
 {
     let count = ballots.len() / BALLOT_BYTES;
-    if first_breaking(head.n, ballots, at) < count {
-        return answer(6, head);
+    let breaking = first_breaking(head.n, ballots, at);
+    if breaking < count {
+        return naming(6, breaking, head);
     }
-    if first_own_otherwise(head, ballots, at) < count {
-        return answer(7, head);
+    let own = first_own_otherwise(head, ballots, at);
+    if own < count {
+        return naming(7, own, head);
     }
-    answer(8, head)
+    naming(8, at, head)
 }
 
+// An answer that names no ballot.
 fn answer(number: u8, head: Head) -> Ticked
-    ensures { λ r. ⌜ r ≡ record { number = number; head = head } ⌝ }
+    ensures { λ r. ⌜ r ≡ record { number = number; index = 0; head = head } ⌝ }
+{
+    naming(number, 0, head)
+}
+
+fn naming(number: u8, index: usize, head: Head) -> Ticked
+    ensures { λ r. ⌜ r ≡ record { number = number; index = index; head = head } ⌝ }
 {
     Ticked {
         number: number,
+        index: index,
         head: head,
     }
 }

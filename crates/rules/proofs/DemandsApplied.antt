@@ -333,6 +333,6 @@ two-of-three-by-the-theorem =
 -- ---- the sixteen: the last of them
 
 pub case-16 : tickOf (start 3) (encode (ballot 1 5 Zero d ∷ ballot 2 5 One u ∷ [])) 0
-    ≡ record { number = 11; head = start 3 }
+    ≡ record { number = 11; index = 0; head = start 3 }
 unfolding sixteen
-case-16 = ap (λ (list : List Ticked). getD list 16 (record { number = 0; head = zeroHead })) D.sixteen-ticks
+case-16 = ap (λ (list : List Ticked). getD list 16 (record { number = 0; index = 0; head = zeroHead })) D.sixteen-ticks

@@ -1,5 +1,6 @@
 pub mod Demands
 pub mod DemandsApplied
+pub mod Offender
 pub mod Computed
 pub mod Counting
 pub mod Meaning

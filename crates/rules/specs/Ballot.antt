@@ -108,11 +108,20 @@ zeroBallot = ballot 0 0 Zero Undecided
 unfoldable pub readBallot : ℕ → List ℕ → Ballot
 readBallot n bytes = cond (eqb (readNumber n bytes) 0) (ballotAt bytes 0) zeroBallot
 
--- the number and the ballot that each answer of the reader stands for
+-- W1: "The ballot reader .. to give the index, from 0, of the first offending ballot", and it has one ballot, at index
+-- 0; "Other numbers give index 0."
+abbrev pub readIndex : ℕ → List ℕ → ℕ
+readIndex n bytes = 0
+
+-- the number, the index and the ballot that each answer of the reader stands for
 abbrev pub numberRead : Read → ℕ
 numberRead (Accepted b) = 0
-numberRead (Refused number) = number
+numberRead (Refused number index) = number
+
+abbrev pub indexRead : Read → ℕ
+indexRead (Accepted b) = 0
+indexRead (Refused number index) = index
 
 abbrev pub ballotRead : Read → Ballot
 ballotRead (Accepted b) = b
-ballotRead (Refused number) = zeroBallot
+ballotRead (Refused number index) = zeroBallot

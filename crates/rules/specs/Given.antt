@@ -118,6 +118,24 @@ SomeBallot l P = (i : ℕ) × (i < ballots l) × P i
 abbrev pub TwoBallots : List ℕ → (Ballot → Ballot → Type 0) → Type 0
 TwoBallots l P = SomeBallot l (λ i. (j : ℕ) × (j < i) × P (ballotAt l j) (ballotAt l i))
 
+-- the first ballot of the list with P
+abbrev pub FirstBallot : List ℕ → (ℕ → Type 0) → ℕ → Type 0
+FirstBallot l P i = (i < ballots l) × P i × ((j : ℕ) → j < i → P j → ⊥)
+
+-- W1, of the ballot at index i: it "differs from an earlier one or from what is held"
+abbrev pub Contradicts : Head → List ℕ → ℕ → Type 0
+Contradicts h l i = ((j : ℕ) × (j < i) × Differ (ballotAt l j) (ballotAt l i)) ⊎ HeldOtherwise h (ballotAt l i)
+
+-- W1: "the index, from 0, of the first offending ballot:", by the number that is given
+pub data Offender (h : Head) (l : List ℕ) (number index : ℕ) : Type 0 where
+  -- "for 6 and 7 the first that breaks the rule,"
+  by-rule : number ≡ 6 → FirstBallot l (Breaks (h .n) l) index → Offender h l number index
+  by-own : number ≡ 7 → FirstBallot l (λ i. OwnOtherwise h (ballotAt l i)) index → Offender h l number index
+  -- "for 8 the first that differs from an earlier one or from what is held."
+  by-difference : number ≡ 8 → FirstBallot l (Contradicts h l) index → Offender h l number index
+  -- "Other numbers give index 0."
+  by-none : (number ≡ 6 → ⊥) → (number ≡ 7 → ⊥) → (number ≡ 8 → ⊥) → index ≡ 0 → Offender h l number index
+
 -- Whom a head hears after steps 1 and 2: those held under v before, if it is at the same phase still, and the senders
 -- of the ballots of its phase that say v.
 abbrev pub HeldOrSent : Head → List ℕ → Value → ℕ → Type 0

@@ -11,7 +11,7 @@ use Rattle.rules.specs.declared.Head.{Head}
 use Rattle.rules.specs.Number.{_when_, firstThatApplies}
 use Rattle.rules.specs.Ballot.{valueCode, valueOf, statusCode, statusOf, bytesOf}
 use Rattle.rules.specs.Head.{headWith, decisionCode, sound, startLines, startOf, ballotOf}
-use Rattle.rules.specs.Tick.{tickNumber, tickOf}
+use Rattle.rules.specs.Tick.{tickNumber, tickIndex, tickOf}
 use Rattle.rules.specs.Sizes.{ballotBytes, recordBytes}
 
 -- "4 bytes each, high byte first"
@@ -62,6 +62,10 @@ recordAfterStart r n own proposal =
 -- A tick from C: 3, and then what a tick asks of the head; refused, "no byte of a lent record .. changes".
 unfoldable pub tickNumberFromC : List ℕ → List ℕ → ℕ → ℕ
 tickNumberFromC r l coin = cond (notSound r) 3 (tickNumber (headAt r) l coin)
+
+-- W1: "The C entry passes it on"; a record that is none is 3, and "Other numbers give index 0."
+unfoldable pub tickIndexFromC : List ℕ → List ℕ → ℕ → ℕ
+tickIndexFromC r l coin = cond (notSound r) 0 (tickIndex (headAt r) l coin)
 
 unfoldable pub recordAfterTick : List ℕ → List ℕ → ℕ → List ℕ
 recordAfterTick r l coin = cond (eqb (tickNumberFromC r l coin) 0) (recordOf (tickOf (headAt r) l coin .head)) r

@@ -28,15 +28,15 @@ pub record Said : Type 0 where
   pub gives : Ticked
   pub after : Ticked
 
-abbrev pub ticked : ℕ → Head → Ticked
-ticked number head = record { number = number; head = head }
+abbrev pub ticked : ℕ → ℕ → Head → Ticked
+ticked number index head = record { number = number; index = index; head = head }
 
 abbrev pub ticks : Head → List Ballot → ℕ → Head → Said
-ticks before list coin after = record { gives = tickOf before (encode list) coin; after = ticked 0 after }
+ticks before list coin after = record { gives = tickOf before (encode list) coin; after = ticked 0 0 after }
 
--- "coin 0 unless said"
-abbrev pub refuses : Head → List Ballot → ℕ → Said
-refuses before list number = record { gives = tickOf before (encode list) 0; after = ticked number before }
+-- "coin 0 unless said"; the number, and W1's index
+abbrev pub refuses : Head → List Ballot → ℕ → ℕ → Said
+refuses before list number index = record { gives = tickOf before (encode list) 0; after = ticked number index before }
 
 unfoldable pub sixteen : List Said
 sixteen =
@@ -46,7 +46,7 @@ sixteen =
     let case4 = head 4 2 Blank u none 0 in
     let case7 = head 3 3 One d ForOne 0 in
     -- 1
-    record { gives = ticked (startOf 3 0 1 .number) (start 3); after = ticked 0 case1 }
+    record { gives = ticked (startOf 3 0 1 .number) 0 (start 3); after = ticked 0 0 case1 }
     -- 2
     ∷ ticks case1 (ballot 0 1 One u ∷ ballot 1 1 One u ∷ []) 0 case2
     -- 3: "0 and 1 held under 1"
@@ -62,20 +62,20 @@ sixteen =
     -- 8
     ∷ ticks case7 (ballot 1 4 One u ∷ []) 0 (head 3 4 One u ForOne 2)
     -- 9
-    ∷ refuses case7 (ballot 2 5 Zero d ∷ []) 11
+    ∷ refuses case7 (ballot 2 5 Zero d ∷ []) 11 0
     -- 10
     ∷ ticks (start 3) (ballot 1 2 One u ∷ ballot 2 2 Blank u ∷ []) 0 (head 3 3 One u none 0)
     -- 11
     ∷ ticks (start 3) [] 0 (start 3)
     -- 12
-    ∷ refuses (start 3) (ballot 1 1 Blank u ∷ []) 6
+    ∷ refuses (start 3) (ballot 1 1 Blank u ∷ []) 6 0
     -- 13
-    ∷ refuses (start 3) (ballot 1 1 Zero u ∷ ballot 1 1 One u ∷ []) 8
+    ∷ refuses (start 3) (ballot 1 1 Zero u ∷ ballot 1 1 One u ∷ []) 8 1
     -- 14
-    ∷ refuses case2 (ballot 1 2 Zero u ∷ ballot 2 2 One u ∷ []) 9
+    ∷ refuses case2 (ballot 1 2 Zero u ∷ ballot 2 2 One u ∷ []) 9 0
     -- 15, and "with the first alone"
-    ∷ refuses (start 3) (ballot 1 65535 One u ∷ ballot 2 65535 One u ∷ []) 10
+    ∷ refuses (start 3) (ballot 1 65535 One u ∷ ballot 2 65535 One u ∷ []) 10 0
     ∷ ticks (start 3) (ballot 1 65535 One u ∷ []) 0 (head 3 65535 One u none 2)
     -- 16
-    ∷ refuses (start 3) (ballot 1 5 Zero d ∷ ballot 2 5 One u ∷ []) 11
+    ∷ refuses (start 3) (ballot 1 5 Zero d ∷ ballot 2 5 One u ∷ []) 11 0
     ∷ []

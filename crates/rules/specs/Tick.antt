@@ -142,8 +142,23 @@ tickNumber h l coin =
     ∷ (11 when decidesOtherwise (stepped (gathered h l) coin))
     ∷ [])
 
+-- W1: "the index, from 0, of the first offending ballot: for 6 and 7 the first that breaks the rule, for 8 the first
+-- that differs from an earlier one or from what is held. Other numbers give index 0."
+unfoldable pub offender : ℕ → Head → List ℕ → ℕ
+offender number h l =
+    cond (eqb number 6) (first (ballots l) (breaksRule (h .n) l))
+    (cond (eqb number 7) (first (ballots l) (λ i. ownOtherwise h (ballotAt l i)))
+    (cond (eqb number 8) (first (ballots l) (contradicts h l)) 0))
+
+unfoldable pub tickIndex : Head → List ℕ → ℕ → ℕ
+tickIndex h l coin = offender (tickNumber h l coin) h l
+
 -- Steps 1 to 4; "A refused tick gives back the head as it came, sound or not."
 unfoldable pub tickOf : Head → List ℕ → ℕ → Ticked
 tickOf h l coin =
     let number = tickNumber h l coin in
-    record { number = number; head = cond (eqb number 0) (settled (stepped (gathered h l) coin)) h }
+    record {
+      number = number;
+      index = tickIndex h l coin;
+      head = cond (eqb number 0) (settled (stepped (gathered h l) coin)) h;
+    }

@@ -53,10 +53,11 @@ pub enum Class {
     Even,
 }
 
-// What reading one ballot answers: the ballot, or the number of the refusal.
+// What reading one ballot answers: the ballot, or the number of the refusal and the index of the first
+// offending ballot.
 pub enum Read {
     Accepted(Ballot),
-    Refused(u8),
+    Refused { number: u8, index: usize },
 }
 
 // What a start answers; 0 is accepted.
@@ -65,9 +66,10 @@ pub struct Started {
     pub head: Head,
 }
 
-// What a tick answers; 0 is accepted.
+// What a tick answers; 0 is accepted. At 6, 7 and 8 the index is that of the first offending ballot.
 pub struct Ticked {
     pub number: u8,
+    pub index: usize,
     pub head: Head,
 }
 

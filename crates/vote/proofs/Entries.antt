@@ -12,10 +12,10 @@ use Rattle.rules.specs.declared.Written.{Written}
 use Rattle.rules.specs.Number.{firstThatApplies}
 use Rattle.rules.specs.Head.{sound, startOf, sendOf}
 use Rattle.rules.specs.Tick.{tickOf}
-use Rattle.rules.specs.Record.{recordOf, isRecord, headAt, notSound, startNumberFromC, recordAfterStart, tickNumberFromC, recordAfterTick, sendNumberFromC, bufferAfterSend}
+use Rattle.rules.specs.Record.{recordOf, isRecord, headAt, notSound, startNumberFromC, recordAfterStart, tickNumberFromC, recordAfterTick, tickIndexFromC, sendNumberFromC, bufferAfterSend}
 use Rattle.rules.proofs.Meaning.Answers.{start-number, starts-number, tick-number, record-length, send-sound, send-unsound, send-bytes}
 use Rattle.codes.proofs.Held.{heldIn, head-held}
-use Rattle.rules.proofs.Layouts.FromC.{tick-number-from-c}
+use Rattle.rules.proofs.Layouts.FromC.{tick-number-from-c, tick-index-from-c}
 
 -- ---- a start
 
@@ -44,30 +44,38 @@ module _ (r : List ℕ) (n own proposal : ℕ) (s : Started) (is : s ≡ startOf
 
 -- ---- a tick
 
-abbrev Ticks : List ℕ → List ℕ → ℕ → ℕ → List ℕ → Type 0
-Ticks r l coin number after = (number ≡ tickNumberFromC r l coin) × (after ≡ recordAfterTick r l coin)
+abbrev Ticks : List ℕ → List ℕ → ℕ → ℕ → List ℕ → ℕ → Type 0
+Ticks r l coin number after index =
+    (number ≡ tickNumberFromC r l coin) × ((after ≡ recordAfterTick r l coin) × (index ≡ tickIndexFromC r l coin))
 
-pub tick-no-record : (r l : List ℕ) (coin : ℕ) → isRecord r ≡ false → Ticks r l coin 3 r
+pub tick-no-record : (r l : List ℕ) (coin : ℕ) → isRecord r ≡ false → Ticks r l coin 3 r 0
 unfolding recordAfterTick
-tick-no-record r l coin uncoded = (simp (tick-number-from-c r l coin, uncoded), simp (tick-number-from-c r l coin, uncoded))
+tick-no-record r l coin uncoded = (
+  simp (tick-number-from-c r l coin, uncoded),
+  (simp (tick-number-from-c r l coin, uncoded), simp (tick-index-from-c r l coin, uncoded)),
+)
 
 module _ (r l : List ℕ) (coin : ℕ) (h : Head) (t : Ticked) (coded : isRecord r ≡ true) (held : h ≡ heldIn r) (is : t ≡ tickOf h l coin) where
   from-record : t ≡ tickOf (headAt r) l coin
   from-record = is ∙ ap (λ (g : Head). tickOf g l coin) (head-held r held (record-length r coded))
 
-  pub tick-refused : (t .number ≡ 0 → ⊥) → Ticks r l coin (t .number) r
+  names : t .index ≡ tickIndexFromC r l coin
+  unfolding tickOf
+  names = simp (tick-index-from-c r l coin, coded) (ap (λ (x : Ticked). x .index) from-record)
+
+  pub tick-refused : (t .number ≡ 0 → ⊥) → Ticks r l coin (t .number) r (t .index)
   unfolding recordAfterTick
   tick-refused some =
       let number = ap (λ (x : Ticked). x .number) from-record ∙ tick-number (headAt r) l coin in
       let given = tick-number-from-c r l coin in
-      (simp (given, coded, ← number), simp (given, coded, ← number, ne-eqb (t .number) 0 some))
+      (simp (given, coded, ← number), (simp (given, coded, ← number, ne-eqb (t .number) 0 some), names))
 
-  pub tick-stores : t .number ≡ 0 → Ticks r l coin 0 (recordOf (t .head))
+  pub tick-stores : t .number ≡ 0 → Ticks r l coin 0 (recordOf (t .head)) (t .index)
   unfolding recordAfterTick
   tick-stores zero =
       let number = sym (ap (λ (x : Ticked). x .number) from-record ∙ tick-number (headAt r) l coin) ∙ zero in
       let given = tick-number-from-c r l coin in
-      (simp (given, coded, number), simp (given, coded, number) (ap (λ (x : Ticked). recordOf (x .head)) from-record))
+      (simp (given, coded, number), (simp (given, coded, number) (ap (λ (x : Ticked). recordOf (x .head)) from-record), names))
 
 -- ---- a ballot
 

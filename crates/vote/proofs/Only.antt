@@ -12,8 +12,10 @@ use Rattle.vote.proofs.vote_tick.Reads as vote-tick
 pub vote-start-only : (κs : _) (a : _) (r r′ : _) (s s′ : _) → vote-start.Post κs a r s → vote-start.Post κs a r′ s′ → (r ≡ r′) × (now (s .0) ≡ now (s′ .0))
 vote-start-only κs a r r′ s s′ p q = (only (p .0) (q .0), only (p .1) (q .1))
 
-pub vote-tick-only : (κs : _) (a : _) (r r′ : _) (s s′ : _) → vote-tick.Post κs a r s → vote-tick.Post κs a r′ s′ → (r ≡ r′) × (now (s .0) ≡ now (s′ .0))
-vote-tick-only κs a r r′ s s′ p q = (only (p .0) (q .0), only (p .1) (q .1))
+-- and the lent index's
+pub vote-tick-only : (κs : _) (a : _) (r r′ : _) (s s′ : _) → vote-tick.Post κs a r s → vote-tick.Post κs a r′ s′
+    → (r ≡ r′) × (now (s .0) ≡ now (s′ .0)) × (now (s .1 .1 .1 .0) ≡ now (s′ .1 .1 .1 .0))
+vote-tick-only κs a r r′ s s′ p q = (only (p .0) (q .0), only (p .1 .0) (q .1 .0), only (p .1 .1) (q .1 .1))
 
 -- the number, and the lent buffer's later contents
 pub vote-ballot-only : (κs : _) (a : _) (r r′ : _) (s s′ : _) → vote-ballot.Post κs a r s → vote-ballot.Post κs a r′ s′ → (r ≡ r′) × (now (s .1 .0) ≡ now (s′ .1 .0))

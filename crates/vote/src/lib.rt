@@ -4,7 +4,7 @@ ghost use mathlib.Core.Path.{_≡_};
 ghost use lib.ListN.{length, replicate};
 ghost use Rattle.rules.specs.Sizes.{recordBytes};
 ghost use Rattle.rules.specs.Record.{recordOf, startNumberFromC, recordAfterStart};
-ghost use Rattle.rules.specs.Record.{tickNumberFromC, recordAfterTick};
+ghost use Rattle.rules.specs.Record.{tickNumberFromC, recordAfterTick, tickIndexFromC};
 ghost use Rattle.rules.specs.Record.{sendNumberFromC, bufferAfterSend};
 use codes::BALLOT_BYTES;
 use codes::RECORD_BYTES;
@@ -34,17 +34,26 @@ pub extern "C" fn vote_start(head_record: &mut [u8], n: u32, own: u32, proposal:
     0
 }
 
-// Ticks the record's head with a list of ballots and a coin; the number is given back.
+// Ticks the record's head with a list of ballots and a coin; the number is given back, and the index of
+// the first offending ballot is written.
 #[no_mangle]
-pub extern "C" fn vote_tick(head_record: &mut [u8], ballots: &[u8], coin: u32) -> u32
+pub extern "C" fn vote_tick(
+    head_record: &mut [u8],
+    ballots: &[u8],
+    coin: u32,
+    index: &mut usize,
+) -> u32
     ensures { λ r. ⌜ r ≡ tickNumberFromC (now (head_record .entry)) (now (ballots .entry)) coin ⌝ }
     ensures { λ _.
         ⌜ now (head_record .exit) ≡ recordAfterTick (now (head_record .entry)) (now (ballots .entry)) coin ⌝ }
+    ensures { λ _. ⌜ now (index .exit) ≡ tickIndexFromC (now (head_record .entry)) (now (ballots .entry)) coin ⌝ }
 {
     if !is_record(head_record) {
+        *index = 0;
         return 3;
     }
     let ticked = tick(head_at(head_record), ballots, coin);
+    *index = ticked.index;
     if ticked.number != 0 {
         return ticked.number as u32;
     }

@@ -15,7 +15,7 @@ use Rattle.rules.specs.Below.{first, count}
 use Rattle.rules.specs.Ballot.{valueOf, statusOf, ballotAt, classOf, allowed, obeys, breaksRule, notHeads, readNumber, readBallot}
 use Rattle.rules.specs.Heard.{member, setOf, size, apart, heard, says}
 use Rattle.rules.specs.Head.{standsUnder, decisionFits, setsFit, phaseFits, sound, startNumber, startOf, sendOf}
-use Rattle.rules.specs.Tick.{leader, moved, heardWith, added, gathered, quorum, majority, stepValue, stepStatus, stepped, settled, notList, sameState, ownOtherwise, differ, heldOtherwise, contradicts, bothHeard, phasesEnd, decidesOtherwise, tickNumber, tickOf}
+use Rattle.rules.specs.Tick.{leader, moved, heardWith, added, gathered, quorum, majority, stepValue, stepStatus, stepped, settled, notList, sameState, ownOtherwise, differ, heldOtherwise, contradicts, bothHeard, phasesEnd, decidesOtherwise, tickNumber, offender, tickIndex, tickOf}
 use Rattle.rules.specs.Choice.{ahead, bitWith}
 use Rattle.rules.specs.Given.{Hears, Says}
 use Rattle.rules.specs.Algorithm.{Process, someIn, lines9to13, lines16to20, lines22to24, lines25to29, lines14to32, lines33to35, clockTick}
@@ -24,11 +24,11 @@ use Rattle.rules.proofs.Counting.Truth.{Means, never, means-as, means-a
 use Rattle.rules.proofs.Counting.Sets.{member-high, member-setOf, setOf-lt}
 use Rattle.rules.proofs.Meaning.Meanings.{means-value}
 use Rattle.rules.proofs.Paper.HeardSoFar.{Among, means-among}
-use Rattle.rules.specs.Record.{isRecord, decisionOf, headAt, notSound, startNumberFromC, recordAfterStart, tickNumberFromC, recordAfterTick, sendNumberFromC, bufferAfterSend}
+use Rattle.rules.specs.Record.{isRecord, decisionOf, headAt, notSound, startNumberFromC, recordAfterStart, tickNumberFromC, tickIndexFromC, recordAfterTick, sendNumberFromC, bufferAfterSend}
 
 -- under `unfolding computing` a start, a tick and a clock tick of Algorithm 1 compute
 unfoldable pub computing : Unit {0}
-unfolding firstThatApplies first count valueOf statusOf ballotAt classOf allowed obeys breaksRule notHeads readNumber readBallot setOf size apart says standsUnder decisionFits setsFit phaseFits sound startNumber startOf sendOf ahead leader moved heardWith added gathered quorum majority bitWith stepValue stepStatus stepped settled notList sameState ownOtherwise differ heldOtherwise contradicts bothHeard phasesEnd decidesOtherwise tickNumber tickOf isRecord decisionOf headAt notSound startNumberFromC recordAfterStart tickNumberFromC recordAfterTick sendNumberFromC bufferAfterSend lines9to13 lines16to20 lines22to24 lines25to29 lines14to32 lines33to35 clockTick
+unfolding firstThatApplies first count valueOf statusOf ballotAt classOf allowed obeys breaksRule notHeads readNumber readBallot setOf size apart says standsUnder decisionFits setsFit phaseFits sound startNumber startOf sendOf ahead leader moved heardWith added gathered quorum majority bitWith stepValue stepStatus stepped settled notList sameState ownOtherwise differ heldOtherwise contradicts bothHeard phasesEnd decidesOtherwise tickNumber offender tickIndex tickOf isRecord decisionOf headAt notSound startNumberFromC recordAfterStart tickNumberFromC tickIndexFromC recordAfterTick sendNumberFromC bufferAfterSend lines9to13 lines16to20 lines22to24 lines25to29 lines14to32 lines33to35 clockTick
 computing = tt
 
 -- P of each number below n, one by one

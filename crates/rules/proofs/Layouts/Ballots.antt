@@ -1,6 +1,6 @@
 -- "Every ballot written reads back as written, and every accepted ballot's bytes are the only ones for it." (Demand 2)
 use Prim.Native.Nat.{ℕ, zero, suc, _+_, _*_, _/_, _%_, _<_}
-use mathlib.Core.Path.{_≡_, refl, sym, ap, _∙_}
+use mathlib.Core.Path.{_≡_, refl, sym, ap, ap₂, _∙_}
 use mathlib.Core.List.{List, [], _∷_}
 use mathlib.Core.Bool.{false}
 use native.Mathlib.Nat.{div-add-mod'}
@@ -12,7 +12,7 @@ use Rattle.rules.specs.declared.Head.{Head}
 use Rattle.rules.specs.declared.Read.{Read}
 use Rattle.rules.specs.declared.Read.the-variants.{Accepted, Refused}
 use Rattle.rules.specs.Number.{firstThatApplies}
-use Rattle.rules.specs.Ballot.{valueCode, statusCode, ballotAt, bytesOf, breaksRule, readNumber, readBallot, zeroBallot, numberRead, ballotRead, Bytes}
+use Rattle.rules.specs.Ballot.{valueCode, statusCode, ballotAt, bytesOf, breaksRule, readNumber, readIndex, readBallot, zeroBallot, numberRead, indexRead, ballotRead, Bytes}
 use Rattle.rules.specs.Head.{ballotOf, sendOf}
 use Rattle.rules.specs.Given.{Heads, Obeys, Sound, phase-1, phase-2, odd-from-3, even-from-4}
 use Rattle.rules.proofs.Counting.Truth.{not-false}
@@ -90,9 +90,11 @@ accepted-not-zero n l e z = none (ap (λ (b : Ballot). b .phase) (rw e at z)) (r
     none q (odd-from-3 p a b c) = omega arith
     none q (even-from-4 p a b c d) = omega arith
 
--- number and ballot determine the answer
-pub one-answer : (n : ℕ) (l : List ℕ) (r s : Read) → numberRead r ≡ readNumber n l → ballotRead r ≡ readBallot n l → numberRead s ≡ readNumber n l → ballotRead s ≡ readBallot n l → r ≡ s
-one-answer n l (Accepted a) (Accepted b) nr br ns bs = ap Accepted (br ∙ sym bs)
-one-answer n l (Accepted a) (Refused k) nr br ns bs = absurd (accepted-not-zero n l (sym nr) (sym bs))
-one-answer n l (Refused j) (Accepted b) nr br ns bs = absurd (accepted-not-zero n l (sym ns) (sym br))
-one-answer n l (Refused j) (Refused k) nr br ns bs = ap Refused (nr ∙ sym ns)
+-- number, index and ballot determine the answer
+pub one-answer : (n : ℕ) (l : List ℕ) (r s : Read)
+    → numberRead r ≡ readNumber n l → indexRead r ≡ readIndex n l → ballotRead r ≡ readBallot n l
+    → numberRead s ≡ readNumber n l → indexRead s ≡ readIndex n l → ballotRead s ≡ readBallot n l → r ≡ s
+one-answer n l (Accepted a) (Accepted b) nr ir br ns is bs = ap Accepted (br ∙ sym bs)
+one-answer n l (Accepted a) (Refused k j) nr ir br ns is bs = absurd (accepted-not-zero n l (sym nr) (sym bs))
+one-answer n l (Refused k i) (Accepted b) nr ir br ns is bs = absurd (accepted-not-zero n l (sym ns) (sym br))
+one-answer n l (Refused k i) (Refused m j) nr ir br ns is bs = ap₂ Refused (nr ∙ sym ns) (ir ∙ sym is)

@@ -20,7 +20,7 @@ use Rattle.rules.specs.Given.{Heads, Obeys, phase-1, phase-2, odd-from-3
 use Rattle.rules.proofs.Counting.Truth.{means-and, means-lt, or-left-false, or-right-false, false-not}
 use Rattle.rules.proofs.Counting.Below.{not-some}
 use Rattle.rules.proofs.Meaning.Meanings.{heads, means-obeys, means-sound}
-use Rattle.rules.proofs.Meaning.Given.{means-own, means-contradicts, means-both, means-end, means-decides}
+use Rattle.rules.proofs.Meaning.Given.{means-own, means-difference, means-both, means-end, means-decides}
 
 passes : (k : ℕ) (t : Bool) (later : List Line) → (k ≡ 0 → ⊥) → firstThatApplies ((k when t) ∷ later) ≡ 0 → (t ≡ false) × (firstThatApplies later ≡ 0)
 unfolding firstThatApplies
@@ -128,7 +128,7 @@ tick-accepted h l coin e =
     let a10 = passes 10 _ _ (λ z. omega arith) (a9 .1) in
     let a11 = passes 11 _ _ (λ z. omega arith) (a10 .1) in
     let list = well-formed (a5 .0) in
-    let apart = false-not (means-contradicts h l) (a8 .0) in
+    let apart = false-not (means-difference h l) (a8 .0) in
     record {
       sound = means-sound h .0 (not-false _ (a3 .0));
       bit = omega (arith, ltb-false 1 coin (a4 .0));

@@ -16,7 +16,7 @@ use Rattle.rules.specs.Ballot.{phaseAt, ballotAt, breaksRule, readNumber
 use Rattle.rules.specs.Heard.{member, heard}
 use Rattle.rules.specs.Head.{sound, heardAs, standsUnder, ballotOf, startNumber, sendOf}
 use Rattle.rules.specs.Tick.{ballots, gathered, stepped, quorum, notList, sameState, ownOtherwise, differ, heldOtherwise, contradicts, bothHeard, phasesEnd, decidesOtherwise, tickNumber}
-use Rattle.rules.specs.Given.{Row, _exactly-at_, At, Given, Sound, Breaks, Hears, Other, OwnOtherwise, Differ, HeldOtherwise, SomeBallot, TwoBallots, HeardAtAll, Quorum, DecidesOtherwise, startTable, readTable, sendTable, tickTable}
+use Rattle.rules.specs.Given.{Row, _exactly-at_, At, Given, Sound, Breaks, Hears, Other, OwnOtherwise, Differ, HeldOtherwise, SomeBallot, TwoBallots, Contradicts, HeardAtAll, Quorum, DecidesOtherwise, startTable, readTable, sendTable, tickTable}
 use Rattle.rules.proofs.Counting.Truth.{Means, never, means-as, means-and, means-or, means-not, means-not-both, means-lt, means-le, means-eq, false-not}
 use Rattle.rules.proofs.Counting.Below.{means-some}
 use Rattle.rules.proofs.Counting.Sets.{means-any}
@@ -169,13 +169,18 @@ means-held : (h : Head) (b : Ballot) → Means (heldOtherwise h b) (HeldOtherwis
 unfolding heldOtherwise
 means-held h b = means-and (means-eq (b .phase) (h .phase)) (otherwise h (b .sender) (b .value))
 
-pub means-contradicts : (h : Head) (l : List ℕ) → Means (some (ballots l) (contradicts h l)) (TwoBallots l Differ ⊎ SomeBallot l (λ i. HeldOtherwise h (ballotAt l i)))
+pub means-contradicts : (h : Head) (l : List ℕ) (i : ℕ) → Means (contradicts h l i) (Contradicts h l i)
 unfolding contradicts
-means-contradicts h l =
+means-contradicts h l i =
+    means-or (means-some (λ j. means-differ (ballotAt l j) (ballotAt l i))) (means-held h (ballotAt l i))
+
+pub means-difference : (h : Head) (l : List ℕ)
+    → Means (some (ballots l) (contradicts h l)) (TwoBallots l Differ ⊎ SomeBallot l (λ i. HeldOtherwise h (ballotAt l i)))
+means-difference h l =
     means-as
     (λ r. elim (r .2) [ inl two ↦ inl (r .0, r .1, two) | inr held ↦ inr (r .0, r .1, held) ])
     (λ r. elim r [ inl x ↦ (x .0, x .1, inl (x .2)) | inr x ↦ (x .0, x .1, inr (x .2)) ])
-    (means-some (λ i. means-or (means-some (λ j. means-differ (ballotAt l j) (ballotAt l i))) (means-held h (ballotAt l i))))
+    (means-some (means-contradicts h l))
 
 pub means-both : (h : Head) → Means (bothHeard h) ((h .phase % 2 ≡ 0) × HeardAtAll h Zero × HeardAtAll h One)
 unfolding bothHeard
@@ -211,7 +216,7 @@ tick-given h l coin =
     then means-list l
     then means-some (means-breaks (h .n) l)
     then means-some (λ i. means-own h (ballotAt l i))
-    then means-contradicts h l
+    then means-difference h l
     then means-both (gathered h l)
     then means-end (gathered h l)
     then means-decides (stepped (gathered h l) coin)

@@ -37,7 +37,7 @@ same-length-3 : tie.Need-same-length-3
 same-length-3 c = search needs
 
 returns-3 : tie.Need-returns-3
-returns-3 c = let done = tick-stores _ _ _ _ _ (sym (c .before .before .before .before .before .before .before .before .before .before .before .is-record .ensures) ∙ not-false (c .before .before .before .before .before .before .before .before .before .before .before .is-record .result) (c .before .before .before .before .before .before .before .before .before .before .if1 .left)) (c .before .before .before .before .before .before .before .before .head-at .ensures) (c .before .before .before .before .before .before .before .tick .ensures) (c .before .before .before .before .before .if2 .left) in (done .0, c .before .before .store .ensures ∙ done .1)
+returns-3 c = let done = tick-stores _ _ _ _ _ (sym (c .before .before .before .before .before .before .before .before .before .before .before .is-record .ensures) ∙ not-false (c .before .before .before .before .before .before .before .before .before .before .before .is-record .result) (c .before .before .before .before .before .before .before .before .before .before .if1 .left)) (c .before .before .before .before .before .before .before .before .head-at .ensures) (c .before .before .before .before .before .before .before .tick .ensures) (c .before .before .before .before .before .if2 .left) in (done .0, (c .before .before .store .ensures ∙ done .1 .0, done .1 .1))
 
 pub vote-tick-spec : {M : Type 1} → statement M
 vote-tick-spec =

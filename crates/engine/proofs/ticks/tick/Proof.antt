@@ -2,7 +2,7 @@ use mathlib.Core.Path.{sym, _∙_}
 use borrow.Author.Tests.{lt-ltb, le-ltb, not-false}
 use borrow.Author.Needs.{needs}
 use Rattle.rules.specs.Number.{firstThatApplies}
-use Rattle.rules.specs.Tick.{tickOf, tickNumber}
+use Rattle.rules.specs.Tick.{tickOf, tickIndex, tickNumber, offender}
 use Rattle.engine.proofs.Listening.{list-refused, list-heard}
 use Rattle.engine.proofs.ticks.tick.Statement.{statement}
 use Rattle.engine.proofs.ticks.tick.Tie as tie
@@ -14,14 +14,14 @@ answer-requires : tie.Need-answer-requires
 answer-requires c κs = search needs
 
 returns : tie.Need-returns
-unfolding tickOf tickNumber firstThatApplies
+unfolding tickOf tickIndex tickNumber offender firstThatApplies
 returns c = simp (← c .before .before .sound .ensures, c .before .if1 .taken, c .answer .ensures)
 
 answer-requires-2 : tie.Need-answer-requires-2
 answer-requires-2 c κs = search needs
 
 returns-2 : tie.Need-returns-2
-unfolding tickOf tickNumber firstThatApplies
+unfolding tickOf tickIndex tickNumber offender firstThatApplies
 returns-2 c = simp (← c .before .before .before .sound .ensures, c .before .before .if1 .left, lt-ltb _ _ (c .before .if2 .taken), c .answer2 .ensures)
 
 not-list-requires : tie.Need-not-list-requires
@@ -31,17 +31,14 @@ answer-requires-3 : tie.Need-answer-requires-3
 answer-requires-3 c κs = search needs
 
 returns-3 : tie.Need-returns-3
-unfolding tickOf tickNumber firstThatApplies
+unfolding tickOf tickIndex tickNumber offender firstThatApplies
 returns-3 c = simp (← c .before .before .before .before .before .sound .ensures, c .before .before .before .before .if1 .left, le-ltb _ _ (c .before .before .before .if2 .left), ← c .before .before .not-list .ensures, c .before .if3 .taken, c .answer3 .ensures)
 
 listened-requires : tie.Need-listened-requires
 listened-requires c κs = sym (c .before .before .before .before .sound .ensures) ∙ not-false _ (c .before .before .before .if1 .left)
 
-answer-requires-4 : tie.Need-answer-requires-4
-answer-requires-4 c κs = search needs
-
 returns-4 : tie.Need-returns-4
-returns-4 c = c .answer4 .ensures ∙ list-refused _ _ _ _ (sym (c .before .before .before .before .before .before .before .sound .ensures) ∙ not-false _ (c .before .before .before .before .before .before .if1 .left)) (le-ltb _ _ (c .before .before .before .before .before .if2 .left)) (sym (c .before .before .before .before .not-list .ensures) ∙ c .before .before .before .if3 .left) (c .before .before .listened .ensures) (c .before .if4 .taken)
+returns-4 c = list-refused _ _ _ _ (sym (c .before .before .before .before .before .before .before .sound .ensures) ∙ not-false _ (c .before .before .before .before .before .before .if1 .left)) (le-ltb _ _ (c .before .before .before .before .before .if2 .left)) (sym (c .before .before .before .before .not-list .ensures) ∙ c .before .before .before .if3 .left) (c .before .before .listened .ensures) (c .if4 .taken)
 
 cast-ended : tie.Need-cast-ended
 cast-ended c = search needs
@@ -50,7 +47,7 @@ ended-requires : tie.Need-ended-requires
 ended-requires c κs = search needs
 
 returns-5 : tie.Need-returns-5
-returns-5 c = c .ended .ensures ∙ list-heard _ _ _ _ (sym (c .before .before .before .before .before .before .before .before .sound .ensures) ∙ not-false _ (c .before .before .before .before .before .before .before .if1 .left)) (le-ltb _ _ (c .before .before .before .before .before .before .if2 .left)) (sym (c .before .before .before .before .before .not-list .ensures) ∙ c .before .before .before .before .if3 .left) (c .before .before .before .listened .ensures) (c .before .before .if4 .left)
+returns-5 c = c .ended .ensures ∙ list-heard _ _ _ _ (sym (c .before .before .before .before .before .before .before .before .before .sound .ensures) ∙ not-false _ (c .before .before .before .before .before .before .before .before .if1 .left)) (le-ltb _ _ (c .before .before .before .before .before .before .before .if2 .left)) (sym (c .before .before .before .before .before .before .not-list .ensures) ∙ c .before .before .before .before .before .if3 .left) (c .before .before .before .before .listened .ensures) (c .before .before .if4 .left)
 
 pub tick-spec : {M : Type 1} → statement M
 tick-spec =
@@ -65,7 +62,6 @@ tick-spec =
     answer-requires-3
     returns-3
     listened-requires
-    answer-requires-4
     returns-4
     cast-ended
     ended-requires
