@@ -36,8 +36,8 @@ def one_round(heads, lost, coins):
     for receiver in range(n):
         heard = [s for s in range(n) if s not in lost[receiver]]
         data = b"".join(ballots[s] for s in heard)
-        number, heads[receiver] = engine.tick(heads[receiver], data, coins[receiver])
-        assert number == 0
+        number, index, heads[receiver] = engine.tick(heads[receiver], data, coins[receiver])
+        assert (number, index) == (0, 0)
 
 
 def head_line(head):

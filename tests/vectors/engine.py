@@ -1,11 +1,12 @@
-"""A model of the vote engine, written from document 01 alone.
+"""A model of the vote engine, written from document 01 and from document 02's W1 alone.
 
-It is made to be read beside document 01: each sentence of the document that
-decides something stands here as a comment, and the lines under it do what it
-says.  It is slow on purpose.  A value is 0, 1 or "blank", not a code; what a
-head has heard is a set of (sender, value) pairs, not three words of bits.
+It is made to be read beside them: each of their sentences that decides
+something stands here as a comment, and the lines under it do what it says.
+It is slow on purpose.  A value is 0, 1 or "blank", not a code; what a head has
+heard is a set of (sender, value) pairs, not three words of bits.
 
-Every entry gives back a pair: the number, then what comes with it.
+Every entry gives back the number, then what comes with it.  A reading and a
+tick give W1's index between the two.
 """
 
 from dataclasses import dataclass, replace
@@ -118,15 +119,16 @@ def read(n, data):
     """Reading one ballot takes n and the bytes."""
     # 1: reading one ballot: n not 2 to 32.
     if not 2 <= n <= 32:
-        return 1, ZERO_BALLOT
+        return 1, 0, ZERO_BALLOT
     # 5: one ballot read: not five bytes.
     if len(data) != 5:
-        return 5, ZERO_BALLOT
-    # 6: a ballot breaks a ballot rule.
+        return 5, 0, ZERO_BALLOT
+    # 6: a ballot breaks a ballot rule.  W1: the index, from 0, of the first
+    # offending ballot; there is but one, and it stands at 0.
     ballot = ballot_of(n, data)
     if ballot is None:
-        return 6, ZERO_BALLOT
-    return 0, ballot
+        return 6, 0, ZERO_BALLOT
+    return 0, 0, ballot
 
 
 # ------------------------------------------------------------------ heads
@@ -205,7 +207,13 @@ def send(head):
 # --------------------------------------------------------------- one tick
 
 class Refused(Exception):
-    """Carries the number that is given back."""
+    """Carries the number that is given back, and the index."""
+
+    # W1: other numbers (than 6, 7 and 8) give index 0.
+    def __init__(self, number, index=0):
+        super().__init__(number, index)
+        self.number = number
+        self.index = index
 
 
 def tick(head, data, coin):
@@ -213,16 +221,17 @@ def tick(head, data, coin):
 
     A refused tick gives back the head as it came, sound or not.
     The refusals stand in the order of their numbers, so the first that applies
-    is the one that is given.
+    is the one that is given.  Each of 6, 7 and 8 looks through the list from
+    its start, so the index is that of W1's first offending ballot.
     """
     try:
         refuse_call(head, data, coin)
         ballots = ballots_of(head, data)
         refuse_own(head, ballots)
         refuse_differing(head, ballots)
-        return 0, Steps(head, ballots, coin).after()
+        return 0, 0, Steps(head, ballots, coin).after()
     except Refused as refused:
-        return refused.args[0], head
+        return refused.number, refused.index, head
 
 
 def refuse_call(head, data, coin):
@@ -241,11 +250,12 @@ def refuse_call(head, data, coin):
 
 def ballots_of(head, data):
     # 6: a ballot breaks a ballot rule.  (A ballot below the phase too.)
+    # W1: for 6 and 7 the first that breaks the rule.
     ballots = []
-    for place in range(0, len(data), 5):
-        ballot = ballot_of(head.n, data[place:place + 5])
+    for index in range(len(data) // 5):
+        ballot = ballot_of(head.n, data[5 * index:5 * index + 5])
         if ballot is None:
-            raise Refused(6)
+            raise Refused(6, index)
         ballots.append(ballot)
     return ballots
 
@@ -253,30 +263,30 @@ def ballots_of(head, data):
 def refuse_own(head, ballots):
     # 7: a ballot under the head's own number has a higher phase, or the same
     # phase and another value or status.
-    for ballot in ballots:
+    for index, ballot in enumerate(ballots):
         if ballot.sender == head.own:
             if ballot.phase > head.phase:
-                raise Refused(7)
+                raise Refused(7, index)
             if ballot.phase == head.phase and ballot.value != head.value:
-                raise Refused(7)
+                raise Refused(7, index)
             if ballot.phase == head.phase and ballot.status != head.status:
-                raise Refused(7)
+                raise Refused(7, index)
 
 
 def refuse_differing(head, ballots):
-    # 8: two ballots of one sender and phase differ;
-    for one in ballots:
-        for other in ballots:
-            if one.sender == other.sender and one.phase == other.phase:
-                if one != other:
-                    raise Refused(8)
-    # or one at the present phase differs in value from what that sender is
-    # held under.
     held = dict(head.heard)
-    for ballot in ballots:
+    # W1: for 8 the first that differs from an earlier one or from what is held.
+    for index, ballot in enumerate(ballots):
+        # 8: two ballots of one sender and phase differ;
+        for earlier in ballots[:index]:
+            if ballot.sender == earlier.sender and ballot.phase == earlier.phase:
+                if ballot != earlier:
+                    raise Refused(8, index)
+        # or one at the present phase differs in value from what that sender is
+        # held under.
         if ballot.phase == head.phase and ballot.sender in held:
             if ballot.value != held[ballot.sender]:
-                raise Refused(8)
+                raise Refused(8, index)
 
 
 class Steps:
@@ -457,17 +467,21 @@ def c_start(record, n, own, proposal):
     return 0, record_of(head)
 
 
-def c_tick(record, ballots, coin):
-    """Tick, called from C."""
+def c_tick(record, ballots, coin, former_index):
+    """Tick, called from C.
+
+    W1: the C entry passes the index on.  `former_index` is what the lent index
+    holds before: it is written at every call and never read.
+    """
     head = head_of(record)
-    # 3: head not sound.
+    # 3: head not sound.  Other numbers (than 6, 7 and 8) give index 0.
     if head is None:
-        return 3, record
-    number, after = tick(head, ballots, coin)
+        return 3, 0, record
+    number, index, after = tick(head, ballots, coin)
     # A refused tick gives back the head as it came.
     if number != 0:
-        return number, record
-    return 0, record_of(after)
+        return number, index, record
+    return 0, index, record_of(after)
 
 
 def c_ballot(record, buffer):

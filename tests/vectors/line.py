@@ -4,15 +4,21 @@ import engine
 
 # What stands before the vectors.
 TOP = """\
-# Vectors for the vote engine, from document 01.  Written by tests/vectors/make.py: edit that.
+# Vectors for the vote engine, from document 01 and document 02's W1.  Written by
+# tests/vectors/make.py: edit that.
 # A line is a letter and hex bytes; spaces mean nothing.  Numbers of 4 bytes, high byte first.
 #   R n ballot                  reading one ballot
 #   S n own proposal            start
 #   T record coin list          one tick
 #   B record                    the ballot that a head sends
 #   s n own proposal record     start from C
-#   t length record coin list   one tick from C
-#   b length record buffer      the ballot of a head, from C"""
+#   t length record coin list   one tick from C; the lent index holds FF in every byte before
+#   b length record buffer      the ballot of a head, from C
+# An answer has the number; for R, T and t then the index of the first offending ballot, from 0;
+# then the bytes given back."""
+
+# What the lent index holds before a tick from C: every bit set.
+FORMER_INDEX = 2 ** 64 - 1
 
 
 def write_line(letter, groups):
@@ -45,27 +51,41 @@ def read_line(line):
 
 
 def answer(letter, arguments, model=engine):
-    """The number and the bytes that stand on the line of stdout."""
+    """The number, the index and the bytes that stand on the line of stdout.
+
+    R, T and t have an index; None stands for it where there is none.
+    """
     if letter == "R":
-        number, ballot = model.read(*arguments)
-        return number, model.bytes_of(ballot)
-    if letter == "S":
-        number, head = model.start(*arguments)
-        return number, model.record_of(head)
+        number, index, ballot = model.read(*arguments)
+        return number, index, model.bytes_of(ballot)
     if letter == "T":
         record, data, coin = arguments
-        number, head = model.tick(model.head_of(record), data, coin)
+        number, index, head = model.tick(model.head_of(record), data, coin)
+        return number, index, model.record_of(head)
+    if letter == "t":
+        return model.c_tick(*arguments, FORMER_INDEX)
+    number, given = answer_without_index(letter, arguments, model)
+    return number, None, given
+
+
+def answer_without_index(letter, arguments, model):
+    if letter == "S":
+        number, head = model.start(*arguments)
         return number, model.record_of(head)
     if letter == "B":
         number, ballot = model.send(model.head_of(arguments[0]))
         return number, model.bytes_of(ballot)
     if letter == "s":
         return model.c_start(*arguments)
-    if letter == "t":
-        return model.c_tick(*arguments)
     if letter == "b":
         return model.c_ballot(*arguments)
     raise AssertionError(letter)
+
+
+def write_answer(letter, number, index, given):
+    """A line of stdout: number and index in two hex digits each, or as many as they need."""
+    numbers = [number] if index is None else [number, index]
+    return " ".join([letter] + ["%02x" % k for k in numbers] + [given.hex()])
 
 
 def four(number):

@@ -4,9 +4,10 @@
     python3 tests/vectors/make.py --check DIR   only compares, and fails where
                                                 a file differs
 
-The answers come from engine.py, a model of document 01.  So that the model is
-not only checked against itself, the number of each vector is typed by hand in
-cases/, and much else that is given back.
+The answers come from engine.py, a model of document 01 and of document 02's W1.
+So that the model is not only checked against itself, the number of each vector
+is typed by hand in cases/, the index at each 6, 7 and 8 of a tick, and much else
+that is given back.
 
 The output is the same each time.  The only chance in it is the generator of
 generator.py, with its seeds written in cases/.
@@ -58,6 +59,8 @@ def main(arguments):
             print("differs: " + path)
             differing += 1
     print_table()
+    print_indexes()
+    print("%d vectors, the number of each typed by hand, and the index at 6, 7 and 8" % len(answers))
     return 1 if differing else 0
 
 
@@ -90,7 +93,17 @@ def print_table():
         assert {number for number, c in enumerate(row) if c > 0} == CAN_GIVE[letter], letter
     columns = [sum(counted[letter, number] for letter in CAN_GIVE) for number in range(12)]
     print("  all " + "".join("%5d" % count for count in columns) + "%5d" % len(answers))
-    print("%d vectors, the number of each typed by hand" % len(answers))
+
+
+def print_indexes():
+    """Counts 6, 7 and 8 of ticks by the index: each is reached at 0, in the middle and at 63."""
+    print("index     0   ..   63")
+    for number in (6, 7, 8):
+        indexes = [int(line.split(" ")[2], 16) for line in answers
+                   if line[0] in "Tt" and int(line[2:4], 16) == number]
+        row = indexes.count(0), sum(0 < index < 63 for index in indexes), indexes.count(63)
+        print("%5d " % number + "".join("%5d" % count for count in row))
+        assert min(row) > 0 and sum(row) == len(indexes), number
 
 
 if __name__ == "__main__":

@@ -76,32 +76,32 @@ ERRORS = [
      "        if self.phase % 2 == 0 and {0, 1} <= {b.value for b in self.ballots if b.phase == self.phase}:"),
     ("9 never", "            raise Refused(9)\n", "            pass\n"),
     ("8 not below the phase",
-     "if one.sender == other.sender and one.phase == other.phase:",
-     "if one.sender == other.sender and one.phase == other.phase >= head.phase:"),
+     "if ballot.sender == earlier.sender and ballot.phase == earlier.phase:",
+     "if ballot.sender == earlier.sender and ballot.phase == earlier.phase >= head.phase:"),
     ("8 only at the highest phase or the present one",
-     "if one.sender == other.sender and one.phase == other.phase:",
-     "if one.sender == other.sender and one.phase == other.phase and "
-     "one.phase in (head.phase, max(b.phase for b in ballots)):"),
+     "if ballot.sender == earlier.sender and ballot.phase == earlier.phase:",
+     "if ballot.sender == earlier.sender and ballot.phase == earlier.phase and "
+     "ballot.phase in (head.phase, max(b.phase for b in ballots)):"),
     ("8 by value only",
-     "                if one != other:",
-     "                if one.value != other.value:"),
+     "                if ballot != earlier:",
+     "                if ballot.value != earlier.value:"),
     ("8 by status only",
-     "                if one != other:",
-     "                if one.status != other.status:"),
+     "                if ballot != earlier:",
+     "                if ballot.status != earlier.status:"),
     ("8 whatever the phase",
-     "if one.sender == other.sender and one.phase == other.phase:",
-     "if one.sender == other.sender:"),
+     "if ballot.sender == earlier.sender and ballot.phase == earlier.phase:",
+     "if ballot.sender == earlier.sender:"),
     ("8 by the low byte of the phase",
-     "if one.sender == other.sender and one.phase == other.phase:",
-     "if one.sender == other.sender and one.phase % 256 == other.phase % 256:"),
+     "if ballot.sender == earlier.sender and ballot.phase == earlier.phase:",
+     "if ballot.sender == earlier.sender and ballot.phase % 256 == earlier.phase % 256:"),
     ("8 for neighbours in the list only",
-     "        for other in ballots:",
-     "        for other in ballots[ballots.index(one):][:2]:"),
+     "        for earlier in ballots[:index]:",
+     "        for earlier in ballots[:index][-1:]:"),
     ("8 not for the head's own ballots",
-     "if one.sender == other.sender and one.phase == other.phase:",
-     "if one.sender == other.sender != head.own and one.phase == other.phase:"),
+     "if ballot.sender == earlier.sender and ballot.phase == earlier.phase:",
+     "if ballot.sender == earlier.sender != head.own and ballot.phase == earlier.phase:"),
     ("8 not against what is held",
-     "            if ballot.value != held[ballot.sender]:\n                raise Refused(8)\n",
+     "            if ballot.value != held[ballot.sender]:\n                raise Refused(8, index)\n",
      "            pass\n"),
     ("8 against what is held only if nothing is copied",
      "        if ballot.phase == head.phase and ballot.sender in held:",
@@ -120,14 +120,14 @@ ERRORS = [
      "            if ballot.value != held[ballot.sender] and BLANK not in (ballot.value, held[ballot.sender]):"),
     ("7 without status",
      "            if ballot.phase == head.phase and ballot.status != head.status:\n"
-     "                raise Refused(7)\n",
+     "                raise Refused(7, index)\n",
      ""),
     ("7 without value",
      "            if ballot.phase == head.phase and ballot.value != head.value:\n"
-     "                raise Refused(7)\n",
+     "                raise Refused(7, index)\n",
      ""),
     ("7 not for a higher phase",
-     "            if ballot.phase > head.phase:\n                raise Refused(7)\n",
+     "            if ballot.phase > head.phase:\n                raise Refused(7, index)\n",
      ""),
     ("7 for any other phase",
      "            if ballot.phase > head.phase:\n",
@@ -143,7 +143,7 @@ ERRORS = [
      "            if ballot.phase == head.phase == max(b.phase for b in ballots) and ballot.value != head.value:"),
     ("return at once on an empty list",
      "        ballots = ballots_of(head, data)\n",
-     "        if len(data) == 0:\n            return 0, head\n        ballots = ballots_of(head, data)\n"),
+     "        if len(data) == 0:\n            return 0, 0, head\n        ballots = ballots_of(head, data)\n"),
     ("return at once where the list has nothing new",
      "        self.copy_highest()\n",
      "        if self.everything_heard == {(self.head.phase, x, y) for x, y in self.head.heard}:\n"
@@ -153,26 +153,26 @@ ERRORS = [
      "        ballots.append(ballot)\n",
      "        ballots.append(ballot)\n"
      "        if ballot.sender == head.own and ballot.phase > head.phase:\n"
-     "            raise Refused(7)\n"),
+     "            raise Refused(7, index)\n"),
     ("refusals by ballot: 8 before a later 7",
-     "    for ballot in ballots:\n        if ballot.sender == head.own:\n",
-     "    for ballot in ballots:\n"
+     "    for index, ballot in enumerate(ballots):\n        if ballot.sender == head.own:\n",
+     "    for index, ballot in enumerate(ballots):\n"
      "        if any(b.sender == ballot.sender and b.phase == ballot.phase and "
-     "b != ballot for b in ballots):\n"
-     "            raise Refused(8)\n"
+     "b != ballot for b in ballots[:index]):\n"
+     "            raise Refused(8, index)\n"
      "        if ballot.sender == head.own:\n"),
     ("6 not below the phase",
-     "        if ballot is None:\n            raise Refused(6)\n",
-     "        if ballot is None and 256 * data[place + 3] + data[place + 4] < head.phase:\n"
+     "        if ballot is None:\n            raise Refused(6, index)\n",
+     "        if ballot is None and 256 * data[5 * index + 3] + data[5 * index + 4] < head.phase:\n"
      "            continue\n"
      "        if ballot is None:\n"
-     "            raise Refused(6)\n"),
+     "            raise Refused(6, index)\n"),
     ("a bad sender only changes nothing",
-     "        if ballot is None:\n            raise Refused(6)\n",
-     "        if ballot is None and data[place] >= head.n:\n"
+     "        if ballot is None:\n            raise Refused(6, index)\n",
+     "        if ballot is None and data[5 * index] >= head.n:\n"
      "            continue\n"
      "        if ballot is None:\n"
-     "            raise Refused(6)\n"),
+     "            raise Refused(6, index)\n"),
     ("10 at a copy without a quorum",
      "        # Step 3.  If the number",
      "        if self.higher and self.phase == 65535:\n"
@@ -374,14 +374,14 @@ ERRORS = [
      "ZERO_BALLOT = Ballot(0, 0, BLANK, UNDECIDED)"),
     ("5 before 1 at a reading",
      "    # 1: reading one ballot: n not 2 to 32.\n",
-     "    if len(data) != 5:\n        return 5, ZERO_BALLOT\n"),
+     "    if len(data) != 5:\n        return 5, 0, ZERO_BALLOT\n"),
     ("6 before 5 at a reading",
-     "    if len(data) != 5:\n        return 5, ZERO_BALLOT\n    # 6",
-     "    if len(data) > 0 and data[0] >= n:\n        return 6, ZERO_BALLOT\n"
-     "    if len(data) != 5:\n        return 5, ZERO_BALLOT\n    # 6"),
+     "    if len(data) != 5:\n        return 5, 0, ZERO_BALLOT\n    # 6",
+     "    if len(data) > 0 and data[0] >= n:\n        return 6, 0, ZERO_BALLOT\n"
+     "    if len(data) != 5:\n        return 5, 0, ZERO_BALLOT\n    # 6"),
     ("more than five bytes are read",
-     "    if len(data) != 5:\n        return 5, ZERO_BALLOT\n    # 6",
-     "    if len(data) < 5:\n        return 5, ZERO_BALLOT\n    # 6"),
+     "    if len(data) != 5:\n        return 5, 0, ZERO_BALLOT\n    # 6",
+     "    if len(data) < 5:\n        return 5, 0, ZERO_BALLOT\n    # 6"),
     ("phase low byte first",
      "phase = 256 * five[3] + five[4]", "phase = 256 * five[4] + five[3]"),
     ("phase by its low byte",
@@ -508,10 +508,11 @@ ERRORS = [
      'word = int.from_bytes(record[place:place + 4], "big")',
      'word = int.from_bytes(record[place:place + 4], "little")'),
     ("C tick: a refused record is written anew",
-     "    # A refused tick gives back the head as it came.\n    if number != 0:\n        return number, record",
-     "    # A refused tick gives back the head as it came.\n    if number != 0:\n        return number, bytes(20)"),
+     "    if number != 0:\n        return number, index, record",
+     "    if number != 0:\n        return number, index, bytes(20)"),
     ("C tick: an unsound record zeroed",
-     "    if head is None:\n        return 3, record", "    if head is None:\n        return 3, bytes(len(record))"),
+     "    if head is None:\n        return 3, 0, record",
+     "    if head is None:\n        return 3, 0, bytes(len(record))"),
     ("C ballot: 5 before 3",
      "    zeros = bytes(len(buffer))\n",
      "    zeros = bytes(len(buffer))\n    if len(buffer) != 5:\n        return 5, zeros\n"),

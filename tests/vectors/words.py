@@ -33,3 +33,8 @@ def packed(ballots):
     if isinstance(ballots, bytes):
         return ballots
     return b"".join(engine.bytes_of(Ballot(*ballot)) for ballot in ballots)
+
+
+def with_one(ballots, index, ballot):
+    """The list with one ballot more, which stands at that index."""
+    return ballots[:index] + [Ballot(*ballot)] + ballots[index:]

@@ -3,7 +3,7 @@
 from engine import Ballot
 from generator import Generator
 from vector import T, note, section, t
-from words import H, blank, d, none, packed, u
+from words import H, blank, d, none, packed, u, with_one
 
 
 def cases():
@@ -27,12 +27,14 @@ def none_forged(dice):
 
 def one_forged(dice):
     note("One ballot among 64 breaks a ballot rule, below, at and above the phase: 6.")
-    for place, forged in ((7, (3, 1, blank, u)), (40, (32, 5, 1, u)), (63, (3, 8, blank, d))):
-        T(H(32, 0, 5, 1), with_one(mixed(dice, 32, 0, (1, 2, 3, 4, 5), 63), place, forged), 0, 6)
+    for index, forged in ((7, (3, 1, blank, u)), (40, (32, 5, 1, u)), (63, (3, 8, blank, d))):
+        ballots = mixed(dice, 32, 0, (1, 2, 3, 4, 5), 63)
+        T(H(32, 0, 5, 1), with_one(ballots, index, forged), 0, 6, index=index)
 
     note("One ballot among 64 under the head's own number: 7.")
-    for place, forged in ((0, (9, 6, 1, u)), (31, (9, 5, 0, u)), (63, (9, 5, 1, d))):
-        T(H(32, 9, 5, 1), with_one(mixed(dice, 32, 9, (4, 5), 63), place, forged), 1, 7)
+    for index, forged in ((0, (9, 6, 1, u)), (31, (9, 5, 0, u)), (63, (9, 5, 1, d))):
+        ballots = mixed(dice, 32, 9, (4, 5), 63)
+        T(H(32, 9, 5, 1), with_one(ballots, index, forged), 1, 7, index=index)
 
     note("The same with the head's own ballots as they were sent, of this phase and before: accepted.")
     own_ones = [Ballot(9, 5, 1, u), Ballot(9, 4, blank, u), Ballot(9, 1, 0, u)]
@@ -44,11 +46,12 @@ def differing(dice):
     for phase, one, other in ((2, (20, 2, 0, u), (20, 2, blank, u)), (5, (20, 5, 0, u), (20, 5, 1, u)),
                               (8, (20, 8, 1, d), (20, 8, 1, u))):
         ballots = [x for x in mixed(dice, 32, 0, (2, 5, 8), 62) if (x.sender, x.phase) != (20, phase)]
-        T(H(32, 0, 5, 1), with_one(with_one(ballots, 5, one), len(ballots), other), 1, 8)
+        later = len(ballots)
+        T(H(32, 0, 5, 1), with_one(with_one(ballots, 5, one), later, other), 1, 8, index=later)
 
     note("Among 60 one differs from what its sender is held under: 8.")
     ballots = [x for x in mixed(dice, 32, 0, (4, 5), 60) if x.sender != 31]
-    T(H(32, 0, 5, 1, zeros=[31]), ballots + [Ballot(31, 5, 1, u)], 0, 8)
+    T(H(32, 0, 5, 1, zeros=[31]), ballots + [Ballot(31, 5, 1, u)], 0, 8, index=len(ballots))
 
 
 def both_heard(dice):
@@ -82,8 +85,8 @@ def from_c(dice):
     note("From C: 64 ballots, accepted, and the same with the last one forged.")
     ballots = mixed(dice, 32, 31, (3, 4, 5), 63)
     t(H(32, 31, 3, 0), ballots + [ballots[0]], 1, 0)
-    t(H(32, 31, 3, 0), ballots + [Ballot(31, 4, 0, u)], 1, 7)
-    t(H(32, 31, 3, 0), packed(ballots) + bytes.fromhex("2001000003"), 1, 6)
+    t(H(32, 31, 3, 0), ballots + [Ballot(31, 4, 0, u)], 1, 7, index=63)
+    t(H(32, 31, 3, 0), packed(ballots) + bytes.fromhex("2001000003"), 1, 6, index=63)
 
 
 def mixed(dice, n, own, phases, count, value=None):
@@ -99,7 +102,3 @@ def mixed(dice, n, own, phases, count, value=None):
             table[sender, phase] = Ballot(sender, phase, said, u)
         ballots.append(table[sender, phase])
     return ballots
-
-
-def with_one(ballots, place, forged):
-    return ballots[:place] + [Ballot(*forged)] + ballots[place:]

@@ -60,8 +60,8 @@ def vote(n, seed, ticks):
         head = heads[own]
         ballots = some_sent(dice, sent, head.phase)
         coin = dice.below(2)
-        number, after = engine.tick(head, packed(ballots), coin)
-        assert number == 0, number
+        number, index, after = engine.tick(head, packed(ballots), coin)
+        assert (number, index) == (0, 0), (number, index)
         whole[own].tick(ballots, coin)
         assert whole[own].agrees_with(after)
         assert head.decision == none or after.decision == head.decision
