@@ -19,14 +19,14 @@ from collections import Counter
 
 sys.dont_write_bytecode = True
 
-from cases import (chains, coin_and_length, forged, honest, reading, refusal_6, refusals_7_and_8,
-                   refusals_9_to_11, sending, sixteen, soundness, starts, steps)
+from cases import (chains, coin_and_length, forged, honest, offenders, reading, refusal_6,
+                   refusals_7_and_8, refusals_9_to_11, sending, sixteen, soundness, starts, steps)
 from line import TOP
 from vector import answers, lines
 
 # In the order of the lines.
 PARTS = (sixteen, starts, reading, sending, soundness, coin_and_length, refusal_6, refusals_7_and_8,
-         refusals_9_to_11, steps, chains, honest, forged)
+         refusals_9_to_11, offenders, steps, chains, honest, forged)
 
 # Which numbers each entry can give back, by document 01.
 CAN_GIVE = {

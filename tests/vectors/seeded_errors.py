@@ -1,7 +1,8 @@
 """The errors that errors.py puts into engine.py, one at a time.
 
 Each is one edit: a text that stands in engine.py exactly once, and what the
-error has in its place.  The first are document 01's "Errors that look right".
+error has in its place.  The first are document 01's "Errors that look right"; the
+last, from "W1" on, give another index and nothing else.
 """
 
 # (what the error is, text of engine.py, text in its place)
@@ -527,4 +528,101 @@ ERRORS = [
     ("C ballot: a longer buffer accepted",
      "    if len(buffer) != 5:\n        return 5, zeros\n    return 0, bytes_of(ballot)",
      "    if len(buffer) < 5:\n        return 5, zeros\n    return 0, bytes_of(ballot) + buffer[5:]"),
+    # ---- W1: the index, from 0, of the first offending ballot
+    ("the index from 1",
+     "        return refused.number, refused.index, head\n",
+     "        return refused.number, refused.index + (refused.number in (6, 7, 8)), head\n"),
+    ("the index in bytes",
+     "        return refused.number, refused.index, head\n",
+     "        return refused.number, 5 * refused.index, head\n"),
+    ("the index of a reading from 1",
+     "        return 6, 0, ZERO_BALLOT\n", "        return 6, 1, ZERO_BALLOT\n"),
+    ("6: the last for the first",
+     "            raise Refused(6, index)\n",
+     "            raise Refused(6, max(k for k in range(len(data) // 5)\n"
+     "                                 if ballot_of(head.n, data[5 * k:5 * k + 5]) is None))\n"),
+    ("7: the last for the first",
+     "    for index, ballot in enumerate(ballots):\n        if ballot.sender == head.own:\n",
+     "    for index, ballot in reversed(list(enumerate(ballots))):\n"
+     "        if ballot.sender == head.own:\n"),
+    ("8: the last for the first",
+     "    for index, ballot in enumerate(ballots):\n        # 8",
+     "    for index, ballot in reversed(list(enumerate(ballots))):\n        # 8"),
+    ("6: senders before the other rules, whichever ballot is first",
+     "            raise Refused(6, index)\n",
+     "            raise Refused(6, ([k for k in range(len(data) // 5) if data[5 * k] >= head.n]\n"
+     "                              + [index])[0])\n"),
+    ("7: a higher phase before another value, whichever ballot is first",
+     "            if ballot.phase == head.phase and ballot.value != head.value:\n"
+     "                raise Refused(7, index)\n",
+     "            if ballot.phase == head.phase and ballot.value != head.value:\n"
+     "                raise Refused(7, ([k for k, b in enumerate(ballots) if b.sender == head.own\n"
+     "                                   and b.phase > head.phase] + [index])[0])\n"),
+    ("7: the first ballot under the own number",
+     "    for index, ballot in enumerate(ballots):\n        if ballot.sender == head.own:\n",
+     "    for ballot in ballots:\n"
+     "        index = [b.sender for b in ballots].index(ballot.sender)\n"
+     "        if ballot.sender == head.own:\n"),
+    ("7: ballots below the phase are not counted in the index",
+     "    for index, ballot in enumerate(ballots):\n        if ballot.sender == head.own:\n",
+     "    for place, ballot in enumerate(ballots):\n"
+     "        index = len([b for b in ballots[:place] if b.phase >= head.phase])\n"
+     "        if ballot.sender == head.own:\n"),
+    ("8: the earlier of the pair",
+     "                    raise Refused(8, index)\n",
+     "                    raise Refused(8, ballots.index(earlier))\n"),
+    ("8: the later of the pair that begins first",
+     "                    raise Refused(8, index)\n",
+     "                    raise Refused(8, min((ballots.index(e), k) for k, b in enumerate(ballots)\n"
+     "                                         for e in ballots[:k]\n"
+     "                                         if e[:2] == b[:2] and e != b)[1])\n"),
+    ("8: equal repeats are not counted in the index",
+     "                    raise Refused(8, index)\n",
+     "                    raise Refused(8, len(set(ballots[:index])))\n"),
+    ("8: without what is held",
+     "            if ballot.value != held[ballot.sender]:\n                raise Refused(8, index)\n",
+     "            if ballot.value != held[ballot.sender]:\n"
+     "                raise Refused(8, ([k for k, b in enumerate(ballots) if any(\n"
+     "                    e[:2] == b[:2] and e != b for e in ballots[:k])] + [0])[0])\n"),
+    ("8: pairs before what is held, whichever ballot is first",
+     "            if ballot.value != held[ballot.sender]:\n                raise Refused(8, index)\n",
+     "            if ballot.value != held[ballot.sender]:\n"
+     "                raise Refused(8, ([k for k, b in enumerate(ballots) if any(\n"
+     "                    e[:2] == b[:2] and e != b for e in ballots[:k])] + [index])[0])\n"),
+    ("8: what is held before pairs, whichever ballot is first",
+     "                    raise Refused(8, index)\n",
+     "                    raise Refused(8, ([k for k, b in enumerate(ballots)\n"
+     "                                       if b.phase == head.phase and b.sender in held\n"
+     "                                       and b.value != held[b.sender]] + [index])[0])\n"),
+    ("6 keeps the index of a 7 before it",
+     "            raise Refused(6, index)\n",
+     "            raise Refused(6, ([k for k, b in enumerate(ballots) if b.sender == head.own\n"
+     "                               and b.phase > head.phase] + [index])[0])\n"),
+    ("7 keeps the index of an 8 before it",
+     "    for index, ballot in enumerate(ballots):\n        if ballot.sender == head.own:\n",
+     "    for place, ballot in enumerate(ballots):\n"
+     "        index = ([k for k, b in enumerate(ballots[:place]) if any(\n"
+     "            e[:2] == b[:2] and e != b for e in ballots[:k])] + [place])[0]\n"
+     "        if ballot.sender == head.own:\n"),
+    ("7 keeps the index that the search for 6 ended at",
+     "    for index, ballot in enumerate(ballots):\n        if ballot.sender == head.own:\n",
+     "    index = len(ballots)\n    for ballot in ballots:\n        if ballot.sender == head.own:\n"),
+    ("9 keeps the index that the search for 8 ended at",
+     "            raise Refused(9)\n", "            raise Refused(9, len(self.ballots))\n"),
+    ("other numbers give index 1",
+     "    def __init__(self, number, index=0):\n", "    def __init__(self, number, index=1):\n"),
+    ("not 0 when accepted",
+     "        return 0, 0, Steps(head, ballots, coin).after()\n",
+     "        return 0, len(ballots), Steps(head, ballots, coin).after()\n"),
+    ("C tick: the index left alone at 3",
+     "    if head is None:\n        return 3, 0, record\n",
+     "    if head is None:\n        return 3, former_index, record\n"),
+    ("C tick: the index left alone when accepted",
+     "    return 0, index, record_of(after)\n", "    return 0, former_index, record_of(after)\n"),
+    ("C tick: the index left alone but for 6, 7 and 8",
+     "    # A refused tick gives back the head as it came.\n    if number != 0:\n",
+     "    if number not in (0, 6, 7, 8):\n        index = former_index\n    if number != 0:\n"),
+    ("C tick: 0 passed on for the index",
+     "    # A refused tick gives back the head as it came.\n    if number != 0:\n",
+     "    index = 0\n    if number != 0:\n"),
 ]
