@@ -1,6 +1,7 @@
 // One ballot: the ballot rules, and reading it from its bytes.
 ghost use mathlib.Core.Path.{_≡_};
 ghost use Prim.Native.Nat.{_<_};
+ghost use Rattle.rules.specs.declared.Read.the-variants.{Refused};
 ghost use Rattle.rules.specs.Ballot.{classOf, allowed as allowedOf, obeys as obeysOf, breaksRule};
 ghost use Rattle.rules.specs.Ballot.{readNumber, readIndex, readBallot, numberRead, indexRead, ballotRead};
 ghost use Rattle.rules.specs.Tick.{ballots as ballotsOf};
@@ -23,24 +24,25 @@ pub fn read(n: u32, bytes: &[u8]) -> Read
     ensures { λ r. ⌜ ballotRead r ≡ readBallot n (now (bytes .entry)) ⌝ }
 {
     if not_heads(n) {
-        return Read::Refused {
-            number: 1,
-            index: 0,
-        };
+        return refusal(1);
     }
     if bytes.len() != BALLOT_BYTES {
-        return Read::Refused {
-            number: 5,
-            index: 0,
-        };
+        return refusal(5);
     }
     if breaks_rule(n, bytes, 0) {
-        return Read::Refused {
-            number: 6,
-            index: 0,
-        };
+        return refusal(6);
     }
     Read::Accepted(ballot_at(bytes, 0))
+}
+
+// One ballot stands at index 0.
+fn refusal(number: u8) -> Read
+    ensures { λ r. ⌜ r ≡ Refused number 0 ⌝ }
+{
+    Read::Refused {
+        number: number,
+        index: 0,
+    }
 }
 
 // Whether the ballot at index i breaks a ballot rule.

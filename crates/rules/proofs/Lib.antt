@@ -1,6 +1,7 @@
 pub mod Demands
 pub mod DemandsApplied
 pub mod Offender
+pub mod OffenderApplied
 pub mod Computed
 pub mod Counting
 pub mod Meaning

@@ -30,70 +30,63 @@ first-ballot l {p} {P} m found index = (
     below : first (ballots l) p < ballots l
     below = ltb-true (first (ballots l) p) (ballots l) found
 
--- the index that goes with a number is the first offending ballot's
-abbrev Named : Head → List ℕ → ℕ → ℕ → Type 0
-Named h l index number = (offender number h l ≡ index) ↔ Offender h l number index
-
 -- of a line that alone has its number
 alone : {P : Type 0} → At 0 P 0 ⊎ ⊥ → P
 alone (inl x) = x .0
 alone (inr none) = absurd none
-
-module _ (h : Head) (l : List ℕ) (coin index : ℕ) where
-  -- the line of a number that is given applies
-  applying : (k : ℕ) → (k ≡ 0 → ⊥) → tickNumber h l coin ≡ k → Applying k 0 (tickTable h l coin)
-  applying k some e = given-applies k 0 (tickTable h l coin) some (tick-given h l coin k .0 e)
-
-  at-6 : tickNumber h l coin ≡ 6 → Named h l index 6
-  unfolding offender
-  at-6 e =
-      let is = first-ballot l (means-breaks (h .n) l) (means-some (means-breaks (h .n) l) .1 (alone (applying 6 (λ z. omega (arith, z)) e))) index in (
-        λ q. by-rule refl (is .0 q),
-        λ o. elim o [ by-rule n x ↦ is .1 x | by-own n x ↦ absurd (omega (arith, n)) | by-difference n x ↦ absurd (omega (arith, n)) | by-none a b c x ↦ absurd (a refl) ],
-      )
-
-  at-7 : tickNumber h l coin ≡ 7 → Named h l index 7
-  unfolding offender
-  at-7 e =
-      let is = first-ballot l (λ i. means-own h (ballotAt l i)) (means-some (λ i. means-own h (ballotAt l i)) .1 (alone (applying 7 (λ z. omega (arith, z)) e))) index in (
-        λ q. by-own refl (is .0 q),
-        λ o. elim o [ by-rule n x ↦ absurd (omega (arith, n)) | by-own n x ↦ is .1 x | by-difference n x ↦ absurd (omega (arith, n)) | by-none a b c x ↦ absurd (b refl) ],
-      )
-
-  at-8 : tickNumber h l coin ≡ 8 → Named h l index 8
-  unfolding offender
-  at-8 e =
-      let is = first-ballot l (means-contradicts h l) (means-difference h l .1 (alone (applying 8 (λ z. omega (arith, z)) e))) index in (
-        λ q. by-difference refl (is .0 q),
-        λ o. elim o [ by-rule n x ↦ absurd (omega (arith, n)) | by-own n x ↦ absurd (omega (arith, n)) | by-difference n x ↦ is .1 x | by-none a b c x ↦ absurd (c refl) ],
-      )
 
 -- a number that names no ballot
 at-others : (h : Head) (l : List ℕ) (number index : ℕ) → (number ≡ 6 → ⊥) → (number ≡ 7 → ⊥) → (number ≡ 8 → ⊥)
     → (0 ≡ index) ↔ Offender h l number index
 at-others h l number index a b c = (λ q. by-none a b c (sym q), λ o. elim o [ by-rule n x ↦ absurd (a n) | by-own n x ↦ absurd (b n) | by-difference n x ↦ absurd (c n) | by-none d f g x ↦ sym x ])
 
--- the four together
-named : (h : Head) (l : List ℕ) (coin index number : ℕ) → tickNumber h l coin ≡ number → Named h l index number
-unfolding offender
-named h l coin index number e = elim (ℕ-discrete number 6) [
-  | yes z ↦ subst (Named h l index) (sym z) (at-6 h l coin index (e ∙ z))
-  | no a ↦ elim (ℕ-discrete number 7) [
-    | yes z ↦ subst (Named h l index) (sym z) (at-7 h l coin index (e ∙ z))
-    | no b ↦ elim (ℕ-discrete number 8) [
-      | yes z ↦ subst (Named h l index) (sym z) (at-8 h l coin index (e ∙ z))
-      | no c ↦ rw (ne-eqb number 6 a, ne-eqb number 7 b, ne-eqb number 8 c) (at-others h l number index a b c)
-    ]
-  ]
-]
-
 -- ---- W1
 
 -- "the tick .. to give the index, from 0, of the first offending ballot", of the number that it gives
 pub a-tick-names-the-first-offending-ballot : (h : Head) (l : List ℕ) (coin index : ℕ)
     → (tickIndex h l coin ≡ index) ↔ Offender h l (tickNumber h l coin) index
-unfolding tickIndex
-a-tick-names-the-first-offending-ballot h l coin index = named h l coin index (tickNumber h l coin) refl
+unfolding tickIndex offender
+a-tick-names-the-first-offending-ballot h l coin index = by (tickNumber h l coin) refl
+  where
+    Named : ℕ → Type 0
+    Named number = (offender number h l ≡ index) ↔ Offender h l number index
+
+    -- the line of a number that is given applies
+    applying : (k : ℕ) → (k ≡ 0 → ⊥) → tickNumber h l coin ≡ k → Applying k 0 (tickTable h l coin)
+    applying k some e = given-applies k 0 (tickTable h l coin) some (tick-given h l coin k .0 e)
+
+    at-6 : tickNumber h l coin ≡ 6 → Named 6
+    at-6 e =
+        let is = first-ballot l (means-breaks (h .n) l) (means-some (means-breaks (h .n) l) .1 (alone (applying 6 (λ z. omega (arith, z)) e))) index in (
+          λ q. by-rule refl (is .0 q),
+          λ o. elim o [ by-rule n x ↦ is .1 x | by-own n x ↦ absurd (omega (arith, n)) | by-difference n x ↦ absurd (omega (arith, n)) | by-none a b c x ↦ absurd (a refl) ],
+        )
+
+    at-7 : tickNumber h l coin ≡ 7 → Named 7
+    at-7 e =
+        let is = first-ballot l (λ i. means-own h (ballotAt l i)) (means-some (λ i. means-own h (ballotAt l i)) .1 (alone (applying 7 (λ z. omega (arith, z)) e))) index in (
+          λ q. by-own refl (is .0 q),
+          λ o. elim o [ by-rule n x ↦ absurd (omega (arith, n)) | by-own n x ↦ is .1 x | by-difference n x ↦ absurd (omega (arith, n)) | by-none a b c x ↦ absurd (b refl) ],
+        )
+
+    at-8 : tickNumber h l coin ≡ 8 → Named 8
+    at-8 e =
+        let is = first-ballot l (means-contradicts h l) (means-difference h l .1 (alone (applying 8 (λ z. omega (arith, z)) e))) index in (
+          λ q. by-difference refl (is .0 q),
+          λ o. elim o [ by-rule n x ↦ absurd (omega (arith, n)) | by-own n x ↦ absurd (omega (arith, n)) | by-difference n x ↦ is .1 x | by-none a b c x ↦ absurd (c refl) ],
+        )
+
+    by : (number : ℕ) → tickNumber h l coin ≡ number → Named number
+    by number e = elim (ℕ-discrete number 6) [
+      | yes z ↦ subst Named (sym z) (at-6 (e ∙ z))
+      | no a ↦ elim (ℕ-discrete number 7) [
+        | yes z ↦ subst Named (sym z) (at-7 (e ∙ z))
+        | no b ↦ elim (ℕ-discrete number 8) [
+          | yes z ↦ subst Named (sym z) (at-8 (e ∙ z))
+          | no c ↦ rw (ne-eqb number 6 a, ne-eqb number 7 b, ne-eqb number 8 c) (at-others h l number index a b c)
+        ]
+      ]
+    ]
 
 -- "The C entry passes it on."
 pub a-tick-from-c-names-the-first-offending-ballot : (r l : List ℕ) (coin index : ℕ)

@@ -1,8 +1,9 @@
 -- What an entry from C gives, by what the engine answers: its number, and what the lent bytes hold afterwards.
 use Prim.Native.Nat.{ℕ}
-use mathlib.Core.Path.{_≡_, sym, ap, _∙_}
+use mathlib.Core.Path.{_≡_, refl, sym, ap, subst, _∙_}
 use mathlib.Core.List.{List}
 use mathlib.Core.Bool.{true, false}
+use native.Mathlib.Omega.{arith}
 use lib.ListN.{length, replicate}
 use borrow.Author.Tests.{eq-eqb, ne-eqb}
 use Rattle.rules.specs.declared.Head.{Head}
@@ -11,11 +12,13 @@ use Rattle.rules.specs.declared.Ticked.{Ticked}
 use Rattle.rules.specs.declared.Written.{Written}
 use Rattle.rules.specs.Number.{firstThatApplies}
 use Rattle.rules.specs.Head.{sound, startOf, sendOf}
-use Rattle.rules.specs.Tick.{tickOf}
+use Rattle.rules.specs.Tick.{tickNumber, tickIndex, tickOf}
 use Rattle.rules.specs.Record.{recordOf, isRecord, headAt, notSound, startNumberFromC, recordAfterStart, tickNumberFromC, recordAfterTick, tickIndexFromC, sendNumberFromC, bufferAfterSend}
+use Rattle.rules.specs.Given.{Offender, by-none}
 use Rattle.rules.proofs.Meaning.Answers.{start-number, starts-number, tick-number, record-length, send-sound, send-unsound, send-bytes}
 use Rattle.codes.proofs.Held.{heldIn, head-held}
-use Rattle.rules.proofs.Layouts.FromC.{tick-number-from-c, tick-index-from-c}
+use Rattle.rules.proofs.Layouts.FromC.{tick-number-from-c}
+use Rattle.rules.proofs.Offender.{a-tick-names-the-first-offending-ballot, a-tick-from-c-names-the-first-offending-ballot}
 
 -- ---- a start
 
@@ -50,18 +53,23 @@ Ticks r l coin number after index =
 
 pub tick-no-record : (r l : List ℕ) (coin : ℕ) → isRecord r ≡ false → Ticks r l coin 3 r 0
 unfolding recordAfterTick
-tick-no-record r l coin uncoded = (
-  simp (tick-number-from-c r l coin, uncoded),
-  (simp (tick-number-from-c r l coin, uncoded), simp (tick-index-from-c r l coin, uncoded)),
-)
+tick-no-record r l coin uncoded =
+    let number : tickNumberFromC r l coin ≡ 3 = simp (tick-number-from-c r l coin, uncoded) in
+    let none : Offender (headAt r) l (tickNumberFromC r l coin) 0 = by-none (λ z. omega (arith, number, z)) (λ z. omega (arith, number, z)) (λ z. omega (arith, number, z)) refl in
+    (sym number, (simp number, sym (a-tick-from-c-names-the-first-offending-ballot r l coin 0 .1 none)))
 
 module _ (r l : List ℕ) (coin : ℕ) (h : Head) (t : Ticked) (coded : isRecord r ≡ true) (held : h ≡ heldIn r) (is : t ≡ tickOf h l coin) where
   from-record : t ≡ tickOf (headAt r) l coin
   from-record = is ∙ ap (λ (g : Head). tickOf g l coin) (head-held r held (record-length r coded))
 
+  -- the number is the tick's, and so the ballot that it names
   names : t .index ≡ tickIndexFromC r l coin
   unfolding tickOf
-  names = simp (tick-index-from-c r l coin, coded) (ap (λ (x : Ticked). x .index) from-record)
+  names =
+      let number : tickNumber (headAt r) l coin ≡ tickNumberFromC r l coin = simp (tick-number-from-c r l coin, coded) in
+      let index : tickIndex (headAt r) l coin ≡ t .index = sym (ap (λ (x : Ticked). x .index) from-record) in
+      let named = a-tick-names-the-first-offending-ballot (headAt r) l coin (t .index) .0 index in
+      sym (a-tick-from-c-names-the-first-offending-ballot r l coin (t .index) .1 (subst (λ (k : ℕ). Offender (headAt r) l k (t .index)) number named))
 
   pub tick-refused : (t .number ≡ 0 → ⊥) → Ticks r l coin (t .number) r (t .index)
   unfolding recordAfterTick

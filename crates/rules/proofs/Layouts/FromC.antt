@@ -1,6 +1,6 @@
 -- The three entries from C: the table 'given exactly when', and what they leave in the lent bytes.
 use Prim.Native.Nat.{ℕ}
-use mathlib.Core.Path.{_≡_, refl, sym, ap, subst, _∙_}
+use mathlib.Core.Path.{_≡_, refl, sym, subst, _∙_}
 use mathlib.Core.List.{List}
 use mathlib.Core.Bool.{Bool, true, false, cond, _&&_, not}
 use mathlib.Core.Logic.{inl, inr, _↔_}
@@ -12,8 +12,8 @@ use borrow.Author.Tests.{ne-eqb}
 use Rattle.rules.specs.declared.Head.{Head}
 use Rattle.rules.specs.Ballot.{readNumber, readBallot}
 use Rattle.rules.specs.Head.{sound, startNumber, startOf, ballotOf}
-use Rattle.rules.specs.Tick.{tickNumber, offender, tickIndex, tickOf}
-use Rattle.rules.specs.Record.{recordOf, isRecord, headAt, notSound, startNumberFromC, recordAfterStart, tickNumberFromC, tickIndexFromC, recordAfterTick, sendNumberFromC, bufferAfterSend}
+use Rattle.rules.specs.Tick.{tickNumber, tickOf}
+use Rattle.rules.specs.Record.{recordOf, isRecord, headAt, notSound, startNumberFromC, recordAfterStart, tickNumberFromC, recordAfterTick, sendNumberFromC, bufferAfterSend}
 use Rattle.rules.specs.Given.{Given, Sound, SoundRecord, startTableFromC, tickTableFromC, sendTableFromC}
 use Rattle.rules.proofs.Counting.Truth.{Means, means-self, means-as, means-and, means-or, means-not, means-lt, means-eq, false-not, not-false, not-not}
 use Rattle.rules.proofs.Meaning.Meanings.{means-heads, means-sound}
@@ -115,16 +115,6 @@ tick-number-from-c r l coin = go (isRecord r) (sound (headAt r)) refl
     go : (a b : Bool) → sound (headAt r) ≡ b → cond (not (a && b)) 3 (tickNumber (headAt r) l coin) ≡ cond a (tickNumber (headAt r) l coin) 3
     go true true e = refl
     go true false e = sym (tick-given (headAt r) l coin 3 .1 (applies (false-not (means-sound (headAt r)) e)))
-    go false b e = refl
-
--- and index 0, or what the tick names: a head that is not sound gives 3
-pub tick-index-from-c : (r l : List ℕ) (coin : ℕ) → tickIndexFromC r l coin ≡ cond (isRecord r) (tickIndex (headAt r) l coin) 0
-unfolding tickIndexFromC notSound tickIndex offender
-tick-index-from-c r l coin = go (isRecord r) (sound (headAt r)) refl
-  where
-    go : (a b : Bool) → sound (headAt r) ≡ b → cond (not (a && b)) 0 (tickIndex (headAt r) l coin) ≡ cond a (tickIndex (headAt r) l coin) 0
-    go true true e = refl
-    go true false e = sym (ap (λ (k : ℕ). offender k (headAt r) l) (tick-given (headAt r) l coin 3 .1 (applies (false-not (means-sound (headAt r)) e))))
     go false b e = refl
 
 -- ---- an accepted entry leaves what the engine gives by value
