@@ -6,8 +6,8 @@
   formula, a command or a line of output every word occurs in a source, and every path in it is there.
 - A name with the ending `..` is the beginning of names that are there.
 - In a table of docs/promises with a column 'File' every definition and theorem of a row stands in a file of that
-  row, or on one of the two pages; and what a cell of a column 'Code' names, in a file of that cell.
-- Every must-fail edit is named once in all papers, in docs/promises; every theorem of the two pages is named there.
+  row, or on one of the pages; and what a cell of a column 'Code' names, in a file of that cell.
+- Every must-fail edit is named once in all papers, in docs/promises; every theorem of the pages is named there.
 - A link leads to a file, and to a heading of it.
 - A cell of a table has at most 120 characters, and so has any other line.
 

@@ -6,7 +6,8 @@ import re
 LEFT_OUT = {".git", "target", "__pycache__"}
 HERE = "tests/papers/"       # whose errors on purpose have words of their own
 TEXTS = (".antt", ".rt", ".h", ".c", ".py", ".rs", ".sh", ".txt", ".edit")
-PAGES = ("crates/rules/proofs/Demands.antt", "crates/file/proofs/TheBench.antt")
+PAGES = ("crates/rules/proofs/Demands.antt", "crates/rules/proofs/Offender.antt",
+         "crates/file/proofs/TheBench.antt")
 
 ANTT = re.compile(r"^(?:abbrev |unfoldable )*(?:pub )?([^\s(){}:]+) :"         # a definition, a theorem
                   r"|^ +(?:pub )?([^\s(){}:]+) :(?= )"                          # a field, a variant
