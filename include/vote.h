@@ -53,19 +53,21 @@
  *   even phase from 4 any value, either status; blank only when undecided
  *
  *
- * What a caller owes. No proof of the engine can see these four:
+ * What a caller owes. No proof of the engine can see these five:
  *
- *   A pointer is valid for its length: that many bytes can be read there and, where the pointer is
- *     not const, written.
- *   The two buffers of one call do not overlap.
- *   NULL is passed only with length 0.
- *   Nothing else reads or writes the record during a call, or writes another buffer of the call: no
- *     other thread and no interrupt handler. A handler that ticks a record while the main program
- *     is inside a call with that record breaks this. Calls with different records may run at once,
- *     in threads and in handlers: the engine has no memory of its own.
+ *   A pointer to bytes is valid for its length: that many bytes can be read there and, where the
+ *     pointer is not const, written. `index` points to a size_t that can be written.
+ *   `index` is aligned as a size_t: a variable of that type is.
+ *   The buffers of one call do not overlap, and *index overlaps none of them.
+ *   NULL is passed only with length 0, and never as `index`.
+ *   Nothing else reads or writes the record or *index during a call, or writes another buffer of
+ *     the call: no other thread and no interrupt handler. A handler that ticks a record while the
+ *     main program is inside a call with that record breaks this. Calls with different records may
+ *     run at once, each with an index of its own, in threads and in handlers: the engine has no
+ *     memory of its own.
  *
  * Everything else may be anything: every length, every byte and every number has its answer.
- * Pointers need no alignment.
+ * Pointers to bytes need no alignment.
  */
 #ifndef VOTE_H
 #define VOTE_H
@@ -113,7 +115,8 @@ enum vote_ballot_place {
 /*
  * The numbers that the three functions give back, with document 01's words. Where several apply,
  * the lowest is given. Bad input is refused by its number, not by its place: a list whose first
- * ballot is a 7 and whose last is a 6 gives 6.
+ * ballot is a 7 and whose last is a 6 gives 6. At 6, 7 and 8 a tick also gives the index of a
+ * ballot: the number is chosen first, and the index is that of this number.
  */
 enum vote_number {
     VOTE_ACCEPTED = 0,       /* accepted */
@@ -147,16 +150,31 @@ uint32_t vote_start(uint8_t *record, size_t record_len, uint32_t n, uint32_t own
 
 /*
  * Tick: `ballots` is a list of 0 to 64 ballots, one after the other, in any order. `coin` is a
- * fresh random bit, 0 or 1. It is handed to every tick, needed or not.
+ * fresh random bit, 0 or 1. It is handed to every tick, needed or not. `index` is where the tick
+ * writes which ballot was bad.
  *
  * Gives 0, or one of 3 to 11. Tested in number order: 3, 4, 5, 6, 7, 8, 9, 10, 11.
  * Accepted: the record holds the head after the tick. With nothing new in the list that can be the
  *   same 20 bytes. An empty list is a list.
  * Refused: the record is unchanged to the byte, whatever its length. The tick did not happen.
  * The list is never changed.
+ *
+ * *index is written at every call, accepted or refused, and what stood there is not read. It counts
+ * ballots, not bytes, from 0, in the list as it was handed in:
+ *
+ *   6      the first ballot that breaks a ballot rule
+ *   7      the first ballot under the head's own number that has a higher phase, or the same phase
+ *          and another value or status
+ *   8      the first ballot that differs from an earlier one of its sender and phase or, at the
+ *          present phase, in value from what its sender is held under
+ *   else   0, accepted or refused, also for a record of another length
+ *
+ * The number is chosen first: with a 7 at index 0 and a 6 at index 5, the tick gives 6 and *index
+ * is 5. At 8 the index names the later of the two that differ, and never what it differs from. It
+ * does not say which of them is wrong: that may be the earlier ballot, or what is held.
  */
 uint32_t vote_tick(uint8_t *record, size_t record_len, const uint8_t *ballots, size_t ballots_len,
-                   uint32_t coin);
+                   uint32_t coin, size_t *index);
 
 /*
  * Ballot: writes what the head sends in its present state, its phase, value and status under its

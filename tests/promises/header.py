@@ -7,7 +7,8 @@ from sources import functions
 GIVEN = "crates/rules/specs/Given.antt"
 
 # A slice is two parameters of C's.
-TYPES = {"&mut [u8]": ["uint8_t *", "size_t"], "&[u8]": ["const uint8_t *", "size_t"], "u32": ["uint32_t"]}
+TYPES = {"&mut [u8]": ["uint8_t *", "size_t"], "&[u8]": ["const uint8_t *", "size_t"], "&mut usize": ["size_t *"],
+         "u32": ["uint32_t"]}
 
 
 def header_faults(header, texts):
@@ -93,6 +94,8 @@ def header_with_errors(header):
     yield "an entry that is not there", header.replace("vote_start(", "vote_begin(")
     yield "a record that is const", header.replace("vote_tick(uint8_t *", "vote_tick(const uint8_t *")
     yield "a wider coin", header.replace("uint32_t coin", "uint64_t coin")
+    yield "a narrower index", header.replace("size_t *index", "uint32_t *index")
+    yield "no index", header.replace(", size_t *index", "")
     yield "a number that no entry gives", header.replace("VOTE_DECISION = 11", "VOTE_DECISION = 12")
     yield "two numbers exchanged", re.sub("VOTE_COIN = 4", "VOTE_COIN = 5",
                                           header.replace("VOTE_LENGTH = 5", "VOTE_LENGTH = 4"))
