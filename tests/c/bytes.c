@@ -25,7 +25,7 @@ static void bytes_of_sets(void)
     static const uint8_t after[20] = {24, 9, 0, 1, 0, 0, 2, 0, 0, 0, 0x02, 0x01, 0, 0x80, 0x01, 0};
     lend(&record, before, sizeof before);
     lend(&list, ballots, sizeof ballots);
-    expect_tick("sets as bytes", 0, 0, after);
+    expect_tick("sets as bytes", 0, 0, 0, after);
 }
 
 /* Head 31 of 32, in each of the three sets, as sender and as the head itself. */
@@ -41,15 +41,15 @@ static void top_bit(void)
         after[VOTE_AT_HEARD_0 + 4 * value] = 0x80;
         lend(&record, before, sizeof before);
         lend(&list, ballot, sizeof ballot);
-        expect_tick("sender 31 of 32", 0, 0, after);
+        expect_tick("sender 31 of 32", 0, 0, 0, after);
         before[VOTE_AT_OWN] = after[VOTE_AT_OWN] = 31;
         before[VOTE_AT_VALUE] = after[VOTE_AT_VALUE] = value;
         lend(&record, before, sizeof before);
-        expect_tick("own number 31 of 32", 0, 0, after);
+        expect_tick("own number 31 of 32", 0, 0, 0, after);
     }
     lend(&record, after, sizeof after); /* 31 is held under blank */
     relend_byte(&record, VOTE_AT_HEADS, 31);
-    expect_tick("own number 31 of 31", 0, 3, NULL);
+    expect_tick("own number 31 of 31", 0, 3, 0, NULL);
     relend_byte(&record, VOTE_AT_OWN, 30);
-    expect_tick("head 31 held among 31", 0, 3, NULL);
+    expect_tick("head 31 held among 31", 0, 3, 0, NULL);
 }

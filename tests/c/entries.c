@@ -1,12 +1,15 @@
 /*
  * The three entries of vote.h, called as firmware calls them. Here is what only C shows: lengths,
- * NULL, numbers that a narrower type would cut, the bytes of records and ballots, and the names that
- * the header gives them. What the engine answers is compared elsewhere, by tests/vectors and by
- * tests/independent, the latter through the same archive.
+ * NULL, numbers that a narrower type would cut, the bytes of records and ballots, the index in a
+ * size_t of the caller's, and the names that the header gives them. What the engine answers is
+ * compared elsewhere, by tests/vectors and by tests/independent, the latter through the same
+ * archive.
  *
  * Every buffer is lent from the middle of a room of known bytes. After a call the whole room is
- * compared: the lent bytes with what they must be, the bytes around them with what they were.
- * The expected answers are written by hand from document 01; nothing here steps a head.
+ * compared: the lent bytes with what they must be, the bytes around them with what they were. So is
+ * the index, after every tick.
+ * The expected answers are written by hand from document 01 and request W1; nothing here steps a
+ * head.
  * Failures are printed, and a last line with the number of checks. One failure makes status 1.
  */
 #include "entries.h"
@@ -40,5 +43,7 @@ int main(void)
     numbers_are_not_cut();
     bytes_as_documented();
     every_byte_of_a_record();
+    first_offending_ballots();
+    numbers_without_index();
     return finish();
 }

@@ -40,13 +40,16 @@ void null_with_length_zero(void);
 void numbers_are_not_cut(void);
 void bytes_as_documented(void);
 void every_byte_of_a_record(void);
+void first_offending_ballots(void);
+void numbers_without_index(void);
 
-/* ---- expect.c: calls an entry with what is lent, and compares number and rooms */
+/* ---- expect.c: calls an entry with what is lent, and compares number, index and rooms */
 
 void expect_start(const char *what, uint32_t n, uint32_t own, uint32_t proposal, uint32_t number);
 
 /* `after` NULL, or any refusal: the record is as it came. */
-void expect_tick(const char *what, uint32_t coin, uint32_t number, const uint8_t *after);
+void expect_tick(const char *what, uint32_t coin, uint32_t number, size_t index,
+                 const uint8_t *after);
 
 /* An empty list for a sound head that holds enough: it may step or be refused, but not by 3. */
 void expect_not_3(const char *what);
@@ -70,6 +73,13 @@ struct lent {
 };
 
 extern struct lent record, list, buffer;
+
+/* The index is the middle one, between two guards and aligned as the header asks. */
+extern size_t index_room[3];
+#define INDEX_GUARD ((size_t)0xA0A1A2A3A4A5A6A7)
+
+/* For each tick anew. FF bytes stand in it, or at every third tick a number. */
+void lend_index(void);
 
 /* `bytes` NULL: the lent bytes are of the room's pattern, none of them zero. */
 void lend(struct lent *to, const uint8_t *bytes, size_t length);

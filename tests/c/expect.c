@@ -14,7 +14,9 @@ struct call {
 
 static unsigned long checks, failures;
 
+static uint32_t ticked(uint32_t coin);
 static void expect_number(const struct call *call, uint32_t given, uint32_t expected);
+static void expect_index(const struct call *call, size_t expected);
 static void expect_room(const struct call *call, const struct lent *lent, const uint8_t *written);
 static int told(const struct call *call);
 static void print_lent(const struct lent *lent);
@@ -29,10 +31,12 @@ void expect_start(const char *what, uint32_t n, uint32_t own, uint32_t proposal,
     expect_room(&call, &record, number == 0 ? image(&begun) : NULL);
 }
 
-void expect_tick(const char *what, uint32_t coin, uint32_t number, const uint8_t *after)
+void expect_tick(const char *what, uint32_t coin, uint32_t number, size_t index,
+                 const uint8_t *after)
 {
     const struct call call = {what, "vote_tick, coin:", &record, &list, {coin}, 1};
-    expect_number(&call, vote_tick(record.at, record.length, list.at, list.length, coin), number);
+    expect_number(&call, ticked(coin), number);
+    expect_index(&call, index);
     expect_room(&call, &record, number == 0 ? after : NULL);
     expect_room(&call, &list, NULL);
 }
@@ -50,10 +54,11 @@ void expect_ballot(const char *what, uint32_t number, const uint8_t *written)
 void expect_not_3(const char *what)
 {
     const struct call call = {what, "vote_tick, coin:", &record, &list, {0}, 1};
-    const uint32_t given = vote_tick(record.at, record.length, list.at, list.length, 0);
+    const uint32_t given = ticked(0);
     checks++;
     if (given == 3 && told(&call))
         dprintf(1, "    gave 3, expected another number\n");
+    expect_index(&call, 0);
     expect_room(&call, &record, given == 0 ? record.at : NULL);
     expect_room(&call, &list, NULL);
 }
@@ -64,11 +69,28 @@ int finish(void)
     return failures != 0;
 }
 
+static uint32_t ticked(uint32_t coin)
+{
+    lend_index();
+    return vote_tick(record.at, record.length, list.at, list.length, coin, &index_room[1]);
+}
+
 static void expect_number(const struct call *call, uint32_t given, uint32_t expected)
 {
     checks++;
     if (given != expected && told(call))
         dprintf(1, "    gave %u, expected %u\n", given, expected);
+}
+
+/* The index, and the guards around it as they were. */
+static void expect_index(const struct call *call, size_t expected)
+{
+    const int kept = index_room[0] == INDEX_GUARD && index_room[2] == INDEX_GUARD;
+    checks++;
+    if ((kept && index_room[1] == expected) || !told(call))
+        return;
+    dprintf(1, "    the index is %zu, expected %zu; the words around it are %s\n", index_room[1],
+            expected, kept ? "as they were" : "changed");
 }
 
 /* The whole room: `written`, or the old bytes where it is NULL, between the guards as they were. */

@@ -19,8 +19,8 @@ void numbers_are_not_cut(void)
         expect_start("all three large", large[i], large[i], large[i], 1);
         lend_head(&before);
         lend_ballots(NULL, 0);
-        expect_tick("a large coin, not needed", large[i], 4, NULL);
+        expect_tick("a large coin, not needed", large[i], 4, 0, NULL);
         lend_ballots(steps, 1);
-        expect_tick("a large coin, needed", large[i], 4, NULL);
+        expect_tick("a large coin, needed", large[i], 4, 0, NULL);
     }
 }

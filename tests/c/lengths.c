@@ -19,9 +19,9 @@ void record_lengths(void)
         lend(&record, bytes, length);
         expect_start("another length of the record", 3, 0, 1, 3);
         lend_ballots(NULL, 0);
-        expect_tick("another length of the record", 0, 3, NULL);
+        expect_tick("another length of the record", 0, 3, 0, NULL);
         lend_ballots(&one_heard, 1);
-        expect_tick("another length of the record", 0, 3, NULL);
+        expect_tick("another length of the record", 0, 3, 0, NULL);
         for (room = 0; room <= 21; room++) {
             lend(&buffer, NULL, room);
             expect_ballot("another length of the record", 3, NULL);
@@ -62,12 +62,12 @@ void list_lengths(void)
         int taken = length % VOTE_BALLOT_BYTES == 0 && length <= VOTE_BALLOTS_BYTES_MOST;
         lend_head(&at_start);
         lend(&list, bytes, length);
-        expect_tick("a list's length", 0, taken ? 0 : 5, length == 0 ? NULL : image(&heard));
+        expect_tick("a list's length", 0, taken ? 0 : 5, 0, length == 0 ? NULL : image(&heard));
     }
     bytes[VOTE_BALLOTS_BYTES_MOST - 1] = 0; /* the last ballot's phase */
     lend_head(&at_start);
     lend(&list, bytes, VOTE_BALLOTS_BYTES_MOST);
-    expect_tick("the last of 64 ballots is bad", 0, 6, NULL);
+    expect_tick("the last of 64 ballots is bad", 0, 6, VOTE_BALLOTS_MOST - 1, NULL);
 }
 
 /* 32 heads at phases 1 and 2 in one list: the last one is looked at too. */
@@ -84,11 +84,11 @@ void sixty_four_ballots(void)
     }
     lend_head(&before);
     lend_ballots(ballots, VOTE_BALLOTS_MOST);
-    expect_tick("64 ballots of two phases", 0, 0, image(&after));
+    expect_tick("64 ballots of two phases", 0, 0, 0, image(&after));
     ballots[VOTE_BALLOTS_MOST - 1].value = 0;
     lend_head(&before);
     lend_ballots(ballots, VOTE_BALLOTS_MOST);
-    expect_tick("the last of 64 ballots with 0 at an even phase", 0, 9, NULL);
+    expect_tick("the last of 64 ballots with 0 at an even phase", 0, 9, 0, NULL);
 }
 
 /* ---- NULL with length 0 */
@@ -110,12 +110,12 @@ static void null_lists(void)
     const struct head stepped = {3, 0, 2, 1, U, NONE, 0, 0, 0};
     lend_null(&list);
     lend_head(&at_start);
-    expect_tick("NULL list", 0, 0, NULL);
-    expect_tick("NULL list, coin 2", 2, 4, NULL);
+    expect_tick("NULL list", 0, 0, 0, NULL);
+    expect_tick("NULL list, coin 2", 2, 4, 0, NULL);
     lend_head(&enough);
-    expect_tick("NULL list, enough held", 0, 0, image(&stepped));
+    expect_tick("NULL list, enough held", 0, 0, 0, image(&stepped));
     lend(&record, NULL, VOTE_RECORD_BYTES);
-    expect_tick("NULL list, unsound head", 0, 3, NULL);
+    expect_tick("NULL list, unsound head", 0, 3, 0, NULL);
 }
 
 static void null_records(void)
@@ -126,9 +126,9 @@ static void null_records(void)
     expect_start("NULL record", 3, 0, 2, 2);
     expect_start("NULL record", 3, 0, 1, 3);
     lend_ballots(&one_heard, 1);
-    expect_tick("NULL record", 0, 3, NULL);
+    expect_tick("NULL record", 0, 3, 0, NULL);
     lend_null(&list);
-    expect_tick("NULL record and list", 2, 3, NULL);
+    expect_tick("NULL record and list", 2, 3, 0, NULL);
     lend(&buffer, NULL, VOTE_BALLOT_BYTES);
     expect_ballot("NULL record", 3, NULL);
     lend_null(&buffer);

@@ -9,6 +9,7 @@ static void write_set(uint8_t *to, uint32_t set);
 struct lent record = {.name = "record"};
 struct lent list = {.name = "ballots"};
 struct lent buffer = {.name = "buffer"};
+size_t index_room[3];
 
 void lend(struct lent *to, const uint8_t *bytes, size_t length)
 {
@@ -34,6 +35,14 @@ void lend_null(struct lent *to)
 void relend_byte(struct lent *lent, size_t place, uint8_t byte)
 {
     lent->before[GUARD + place] = lent->room[GUARD + place] = byte;
+}
+
+void lend_index(void)
+{
+    static size_t ticks;
+    ticks++;
+    index_room[0] = index_room[2] = INDEX_GUARD;
+    index_room[1] = ticks % 3 == 0 ? ticks % VOTE_BALLOTS_MOST : (size_t)-1;
 }
 
 void lend_head(const struct head *h)

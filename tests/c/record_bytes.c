@@ -42,9 +42,9 @@ static void expect_soundness(const uint8_t *bytes)
     expect_ballot("one byte of a record", is_sound ? 0 : 3, ballot);
     lend_ballots(NULL, 0);
     if (!is_sound) {
-        expect_tick("one byte of a record", 0, 3, NULL);
+        expect_tick("one byte of a record", 0, 3, 0, NULL);
     } else if (2 * size_of_set(heard) <= bytes[VOTE_AT_HEADS]) {
-        expect_tick("one byte of a record", 0, 0, NULL);
+        expect_tick("one byte of a record", 0, 0, 0, NULL);
     } else {
         expect_not_3("one byte of a record");
     }
