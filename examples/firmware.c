@@ -6,6 +6,7 @@
  * tests/c/run compiles this file, runs it and compares what it prints with firmware.out.
  */
 #include <stdio.h>
+#include <string.h>
 
 #include "vote.h"
 
@@ -15,9 +16,10 @@ enum { HEADS = 3, OWN = 0 };
 static uint8_t record[VOTE_RECORD_BYTES];
 
 static uint32_t one_tick(void);
-static uint32_t tick(const uint8_t *ballots, size_t length);
+static uint32_t tick(const uint8_t *ballots, size_t length, size_t *index);
+static size_t drop(uint8_t *ballots, size_t length, size_t index, uint32_t number);
 static uint32_t tick_one_by_one(const uint8_t *ballots, size_t length);
-static void show(uint32_t number, size_t ballots);
+static void show(uint32_t number, size_t index, size_t ballots);
 
 static uint32_t recovered_bit(void);
 static int radio_is_on(void);
@@ -49,7 +51,7 @@ int main(void)
 static uint32_t one_tick(void)
 {
     uint8_t list[VOTE_BALLOTS_BYTES_MOST];
-    size_t used = VOTE_BALLOT_BYTES;
+    size_t used = VOTE_BALLOT_BYTES, index;
     uint32_t number;
 
     /* The own ballot comes first in the list: a head hears itself only if it is there. */
@@ -58,39 +60,66 @@ static uint32_t one_tick(void)
         return number;
     radio_send(list);
 
+    /* One bad ballot has the whole list refused, and the record is as it was. A neighbour that goes
+       on sending it would keep this head from hearing anybody. So it is dropped, and the others are
+       handed in again. */
     used += radio_receive(list + used, sizeof list - used);
-    number = tick(list, used);
+    number = tick(list, used, &index);
+    while (number >= VOTE_BALLOT_RULE && number <= VOTE_BALLOTS_DIFFER) {
+        used = drop(list, used, index, number);
+        number = tick(list, used, &index);
+    }
     return number < VOTE_LENGTH ? number : tick_one_by_one(list, used);
 }
 
-static uint32_t tick(const uint8_t *ballots, size_t length)
+static uint32_t tick(const uint8_t *ballots, size_t length, size_t *index)
 {
-    const uint32_t number = vote_tick(record, sizeof record, ballots, length, random_bit());
-    show(number, length / VOTE_BALLOT_BYTES);
+    const uint32_t number = vote_tick(record, sizeof record, ballots, length, random_bit(), index);
+    show(number, *index, length / VOTE_BALLOT_BYTES);
     return number;
 }
 
-/* From VOTE_LENGTH on, the numbers speak of the list, and the record is as it was. One bad ballot
-   would have the whole list refused, and a neighbour that goes on sending it would keep this head
-   from hearing anybody. So the ballots are handed over one at a time, the own one first, and only
-   those that are refused alone are dropped. */
+/* Takes the ballot at the index out of the list, and gives the length of what is left. At 8 another
+   ballot of its sender and phase may be the wrong one, so all of them go: the vote bears a ballot
+   that is lost, but not one that was never sent. The own ballot stays: at 6, 7 and 8 it is never
+   the one, nor of the same sender and phase as the one of an 8. */
+static size_t drop(uint8_t *ballots, size_t length, size_t index, uint32_t number)
+{
+    uint8_t bad[VOTE_BALLOT_BYTES];
+    size_t at, left = 0;
+
+    memcpy(bad, ballots + index * VOTE_BALLOT_BYTES, sizeof bad);
+    for (at = 0; at < length; at += VOTE_BALLOT_BYTES) {
+        const uint8_t *ballot = ballots + at;
+        const int alike = ballot[VOTE_BALLOT_AT_SENDER] == bad[VOTE_BALLOT_AT_SENDER]
+            && memcmp(ballot + VOTE_BALLOT_AT_PHASE, bad + VOTE_BALLOT_AT_PHASE, 2) == 0;
+        if (at == index * VOTE_BALLOT_BYTES || (number == VOTE_BALLOTS_DIFFER && alike))
+            continue;
+        memmove(ballots + left, ballot, VOTE_BALLOT_BYTES);
+        left += VOTE_BALLOT_BYTES;
+    }
+    return left;
+}
+
+/* 5, 9, 10 and 11 name no ballot. The ballots are handed over one at a time, the own one first, and
+   only those that are refused alone are dropped. */
 static uint32_t tick_one_by_one(const uint8_t *ballots, size_t length)
 {
     uint32_t number = VOTE_ACCEPTED;
-    size_t at;
+    size_t at, index;
 
     for (at = 0; at + VOTE_BALLOT_BYTES <= length; at += VOTE_BALLOT_BYTES) {
-        number = tick(ballots + at, VOTE_BALLOT_BYTES);
+        number = tick(ballots + at, VOTE_BALLOT_BYTES, &index);
         if (number == VOTE_NOT_SOUND)
             return number;
     }
     return number;
 }
 
-static void show(uint32_t number, size_t ballots)
+static void show(uint32_t number, size_t index, size_t ballots)
 {
-    printf("tick, ballots %u: number %u, phase %u value %u status %u decision %u\n",
-           (unsigned)ballots, (unsigned)number,
+    printf("tick, ballots %u: number %u index %u, phase %u value %u status %u decision %u\n",
+           (unsigned)ballots, (unsigned)number, (unsigned)index,
            record[VOTE_AT_PHASE] * 256u + record[VOTE_AT_PHASE + 1], record[VOTE_AT_VALUE] + 0u,
            record[VOTE_AT_STATUS] + 0u, record[VOTE_AT_DECISION] + 0u);
 }
@@ -105,7 +134,8 @@ static const struct {
     {0, {{0}}},                              /* all is lost */
     {1, {{1, 1, 0, 0, 1}}},                  /* head 1 at phase 1, value 1 */
     {2, {{2, 3, 0, 0, 1}, {1, 1, 0, 0, 2}}}, /* damaged: no value is 3; and head 1 at phase 2 */
-    {1, {{2, 1, 1, 0, 3}}},                  /* head 2 has caught up: phase 3, value 1, decided */
+    {2, {{2, 1, 1, 0, 3}, {2, 0, 1, 0, 3}}}, /* head 2 at phase 3, twice: one is damaged */
+    {2, {{2, 0, 1, 0, 5}, {1, 1, 1, 0, 3}}}, /* of another vote, decided 0; and head 1 at phase 3 */
 };
 
 static size_t ticks; /* how many have been */
