@@ -54,8 +54,8 @@ pub fn after(heads: &Heads, round: &Round) -> Heads {
         let heard = |sender: &usize| !round.lost.contains(&(receiver, *sender));
         let list: Vec<u8> = (0..heads.len()).filter(heard).flat_map(|s| ballots[s]).collect();
         let mut head = head.clone();
-        let number = engine::tick(&mut head, &list, round.coins[receiver] as u32);
-        assert_eq!(number, 0, "no tick of a run is refused");
+        let answer = engine::tick(&mut head, &list, round.coins[receiver] as u32);
+        assert_eq!(answer, (0, 0), "no tick of a run is refused");
         head
     };
     heads.iter().enumerate().map(tick).collect()

@@ -2,7 +2,9 @@
 //!
 //! It is slow and plain on purpose, and holds other things than the proved engine: a head has a set
 //! of pairs of sender and value instead of bits, a list is a set of ballots, and what was heard is
-//! kept by phase until step 2 drops it. What stands in double quotes is document 01's sentence.
+//! kept by phase until step 2 drops it. In the set no ballot has a place: which one of the list was
+//! bad is asked of the list, once the number is known. What stands in double quotes is document
+//! 01's sentence, or that of request W1.
 
 use crate::words::{ballot_of, bit_of, bytes_of, status_of, value_of, Ballot, Status, Value};
 use std::collections::{BTreeMap, BTreeSet};
@@ -63,15 +65,39 @@ pub fn ballot(record: &[u8], buffer: &mut [u8]) -> u32 {
     0
 }
 
-/// Tick, as C calls it. "A refused tick gives back the head as it came, sound or not."
-pub fn tick(record: &mut [u8], list: &[u8], coin: u32) -> u32 {
+/// Tick, as C calls it: the number and the index. "A refused tick gives back the head as it came,
+/// sound or not."
+pub fn tick(record: &mut [u8], list: &[u8], coin: u32) -> (u32, u64) {
     match after_tick(record, list, coin) {
         Ok(head) => {
             write_record(&head, record);
-            0
+            (0, 0)
         }
-        Err(number) => number,
+        Err(number) => (number, index(number, record, list)),
     }
+}
+
+/// "The index, from 0, of the first offending ballot". A ballot that breaks a ballot rule is none.
+fn index(number: u32, record: &[u8], list: &[u8]) -> u64 {
+    // "Other numbers give index 0."
+    if !(6..=8).contains(&number) {
+        return 0;
+    }
+    let head = sound_head(record).expect("3 comes before");
+    let ballots: Vec<_> = list.chunks(5).map(|bytes| standing(bytes, head.n)).collect();
+    let offending = |&place: &usize| match ballots[place] {
+        // "for 6 and 7 the first that breaks the rule"
+        None => number == 6,
+        Some(ballot) if number == 7 => belies(&head, &ballot),
+        // "for 8 the first that differs from an earlier one or from what is held"
+        Some(ballot) if number == 8 => {
+            let mut earlier = ballots[..place].iter().flatten();
+            unlike_held(&head, &ballot) || earlier.any(|other| unlike(other, &ballot))
+        }
+        Some(_) => false,
+    };
+    let first = (0..ballots.len()).find(offending);
+    first.expect("each of the three has its ballot") as u64
 }
 
 /// "0 is accepted. The first that applies, in this order".
@@ -83,7 +109,7 @@ fn after_tick(record: &[u8], list: &[u8], coin: u32) -> Result<Head, u32> {
     // "list length not a multiple of 5, or over 320 bytes"
     refuse(list.len() % 5 != 0 || list.len() > 320, 5)?;
     // "a ballot breaks a ballot rule". A set: "Equal repeats count once."
-    let read = |bytes| ballot_of(bytes).filter(|ballot| stands(ballot, head.n));
+    let read = |bytes| standing(bytes, head.n);
     let ballots: BTreeSet<Ballot> = list.chunks(5).map(read).collect::<Option<_>>().ok_or(6u32)?;
     // "a ballot under the head's own number has a higher phase, or the same phase and another
     // value or status"
@@ -132,6 +158,11 @@ fn belies(head: &Head, ballot: &Ballot) -> bool {
 fn two_differ(ballots: &BTreeSet<Ballot>) -> bool {
     let places: BTreeSet<_> = ballots.iter().map(|ballot| (ballot.sender, ballot.phase)).collect();
     places.len() < ballots.len()
+}
+
+/// "Two ballots of one sender and phase differ".
+fn unlike(one: &Ballot, other: &Ballot) -> bool {
+    (one.sender, one.phase) == (other.sender, other.phase) && one != other
 }
 
 /// Refusal 8, against what is held. The present phase is the one that the head came with.
@@ -194,6 +225,11 @@ fn senders(head: &Head) -> u32 {
 
 fn senders_with(head: &Head, value: Value) -> u32 {
     head.heard.iter().filter(|pair| pair.1 == value).count() as u32
+}
+
+/// Five bytes as a ballot, where they obey the ballot rules.
+fn standing(bytes: &[u8], n: u32) -> Option<Ballot> {
+    ballot_of(bytes).filter(|ballot| stands(ballot, n))
 }
 
 /// The ballot rules.

@@ -14,8 +14,9 @@ pub enum Entry {
     Ballot,
 }
 
-/// A call of one entry. Start: n, own number, proposal. Tick: the coin first, the list in `other`.
-/// Ballot: no number, the buffer in `other`. `null` lends no address where a length is 0.
+/// A call of one entry. Start: n, own number, proposal. Tick: the coin first, then what stands in
+/// the index before, in two halves, the low one first; the list in `other`. Ballot: no number, the
+/// buffer in `other`. `null` lends no address where a length is 0.
 #[derive(Clone, PartialEq, Eq, Debug)]
 pub struct Call {
     pub entry: Entry,
@@ -25,19 +26,23 @@ pub struct Call {
     pub null: bool,
 }
 
-/// What a call gives back and leaves behind: the number, every lent byte, and whether the bytes
-/// around the lent ones are as they were.
+/// What a call gives back and leaves behind: the number, the index, every lent byte, and whether
+/// the bytes around the lent ones are as they were.
 #[derive(Clone, PartialEq, Eq, Debug)]
 pub struct Answer {
     pub number: u32,
+    pub index: u64,
     pub record: Vec<u8>,
     pub other: Vec<u8>,
     pub around_kept: bool,
 }
 
 impl Call {
+    /// Two things stand in the index by turns, as the coin falls: FF bytes, and 1. What the tick
+    /// writes there must not depend on it.
     pub fn tick(record: Vec<u8>, list: Vec<u8>, coin: u32) -> Call {
-        Call { entry: Entry::Tick, numbers: [coin, 0, 0], record, other: list, null: false }
+        let [low, high] = if coin == 0 { [u32::MAX; 2] } else { [1, 0] };
+        Call { entry: Entry::Tick, numbers: [coin, low, high], record, other: list, null: false }
     }
 
     pub fn start(record: Vec<u8>, numbers: [u32; 3]) -> Call {
@@ -48,16 +53,23 @@ impl Call {
         Call { entry: Entry::Ballot, numbers: [0; 3], record, other: buffer, null: false }
     }
 
+    /// Start and ballot leave it in the index, which they are not lent.
+    pub fn index_before(&self) -> u64 {
+        let [_, low, high] = self.numbers;
+        (high as u64) << 32 | low as u64
+    }
+
     /// What the independent engine answers.
     pub fn expected(&self) -> Answer {
         let (mut record, mut other) = (self.record.clone(), self.other.clone());
         let [first, second, third] = self.numbers;
-        let number = match self.entry {
-            Entry::Start => engine::start(&mut record, first, second, third),
+        let before = self.index_before();
+        let (number, index) = match self.entry {
+            Entry::Start => (engine::start(&mut record, first, second, third), before),
             Entry::Tick => engine::tick(&mut record, &other, first),
-            Entry::Ballot => engine::ballot(&record, &mut other),
+            Entry::Ballot => (engine::ballot(&record, &mut other), before),
         };
-        Answer { number, record, other, around_kept: true }
+        Answer { number, index, record, other, around_kept: true }
     }
 
     fn put(&self, frame: &mut Vec<u8>) {
@@ -71,13 +83,19 @@ impl Call {
     }
 
     fn get_answer(&self, from: &mut ChildStdout) -> Result<Answer> {
-        let mut front = [0; 5];
-        from.read_exact(&mut front)?;
+        let (mut number, mut index, mut kept) = ([0; 4], [0; 8], [0; 1]);
         let (mut record, mut other) = (self.record.clone(), self.other.clone());
-        from.read_exact(&mut record)?;
-        from.read_exact(&mut other)?;
-        let number = u32::from_le_bytes([front[0], front[1], front[2], front[3]]);
-        Ok(Answer { number, record, other, around_kept: front[4] == 1 })
+        let parts: [&mut [u8]; 5] = [&mut number, &mut index, &mut kept, &mut record, &mut other];
+        for part in parts {
+            from.read_exact(part)?;
+        }
+        Ok(Answer {
+            number: u32::from_le_bytes(number),
+            index: u64::from_le_bytes(index),
+            record,
+            other,
+            around_kept: kept == [1],
+        })
     }
 }
 

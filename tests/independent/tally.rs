@@ -3,13 +3,15 @@
 use crate::pipe::{Answer, Call, Entry};
 use crate::votes::{state_in, Asked, Script, State};
 
-/// `numbers` has the answers of each entry by number.
+/// `numbers` has the answers of each entry by number, `indexed` those of a tick whose index is
+/// above 0.
 #[derive(Default)]
 pub struct Tally {
     pub ticks: usize,
     pub votes: usize,
     forged: usize,
     numbers: [[usize; 12]; 3],
+    indexed: [usize; 12],
     undecided_votes: usize,
     decided_votes: [usize; 2],
     decisions: usize,
@@ -21,7 +23,10 @@ pub struct Tally {
 impl Tally {
     pub fn count(&mut self, call: &Call, answer: &Answer) {
         self.numbers[call.entry as usize][answer.number as usize] += 1;
-        self.ticks += (call.entry == Entry::Tick) as usize;
+        if call.entry == Entry::Tick {
+            self.ticks += 1;
+            self.indexed[answer.number as usize] += (answer.index > 0) as usize;
+        }
     }
 
     /// A vote without a difference: how far did the adversary come?
@@ -49,10 +54,10 @@ impl Tally {
     }
 
     pub fn print(&self) {
-        println!("number    start     tick   ballot");
+        println!("number    start     tick   ballot   tick, index above 0");
         for number in 0..12 {
             let [start, tick, ballot] = [0, 1, 2].map(|entry: usize| self.numbers[entry][number]);
-            println!("{number:6} {start:8} {tick:8} {ballot:8}");
+            println!("{number:6} {start:8} {tick:8} {ballot:8} {:8}", self.indexed[number]);
         }
         let [zeros, ones] = self.decided_votes;
         println!("heads with forged lists {}, honest votes {}", self.forged, self.votes);

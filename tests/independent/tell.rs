@@ -8,7 +8,9 @@ pub fn print_call(title: &str, call: &Call, proved: Option<&Answer>) {
     let [first, second, third] = call.numbers;
     match call.entry {
         Entry::Start => println!("{title}: vote_start, n {first}, own {second}, proposal {third}"),
-        Entry::Tick => println!("{title}: vote_tick, coin {first}"),
+        Entry::Tick => {
+            println!("{title}: vote_tick, coin {first}, index before {}", call.index_before())
+        }
         Entry::Ballot => println!("{title}: vote_ballot"),
     }
     println!("  record, {} bytes: {}", call.record.len(), hex(&call.record, 20));
@@ -32,7 +34,10 @@ fn print_answer(who: &str, call: &Call, answer: Option<&Answer>) {
         println!("  {who}: ends in the call");
         return;
     };
-    println!("  {who}: number {}", answer.number);
+    match call.entry {
+        Entry::Tick => println!("  {who}: number {}, index {}", answer.number, answer.index),
+        _ => println!("  {who}: number {}", answer.number),
+    }
     println!("    record: {}", hex(&answer.record, 20));
     if call.entry == Entry::Ballot || answer.other != call.other {
         println!("    {}: {}", name(call), hex(&answer.other, 5));
