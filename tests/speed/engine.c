@@ -1,7 +1,8 @@
 /*
  * The engine of one head, for speed: the list is read once, and what it says at the head's phase is
  * gathered in sets of heads, one bit a head. Odd phases, at which no blank stands, have a loop of
- * their own. Ballots of other phases go through a table.
+ * their own. Ballots of other phases go through a table. At 6, 7 and 8 the list is searched once
+ * more, for the index.
  */
 #include "engine.h"
 
@@ -38,6 +39,7 @@ struct others {
 };
 
 static uint32_t allowed_at(uint32_t phase);
+static int stands(const struct quick_head *head, const uint8_t *ballot);
 static int sound(const struct quick_head *head);
 static int read_odd(const struct quick_head *head, const uint8_t *list, size_t count,
                     struct said *said, struct others *others);
@@ -46,10 +48,14 @@ static int read_even(const struct quick_head *head, const uint8_t *list, size_t 
 APART static int look_up(const struct quick_head *head, const uint8_t *list, size_t i,
                          struct others *others);
 static uint32_t low_first(const uint8_t *at);
+static uint32_t present_of(const struct quick_head *head);
 static void follow(const uint8_t *ballot, uint32_t phase, struct others *others);
 static uint32_t hear(struct quick_head *head, const struct said *said, const struct others *others);
 static uint32_t finish(struct quick_head *head, uint32_t coin);
 static void step(struct quick_head *head, uint32_t coin);
+static size_t first_breaking(const struct quick_head *head, const uint8_t *list);
+static size_t first_otherwise(const struct quick_head *head, const uint8_t *list);
+static size_t first_differing(const struct quick_head *head, const uint8_t *list);
 
 /* ---- The tick */
 
@@ -88,7 +94,7 @@ uint32_t quick_tick_head(struct quick_head *head, const uint8_t *ballots, size_t
 static int read_odd(const struct quick_head *head, const uint8_t *list, size_t count,
                     struct said *said, struct others *others)
 {
-    const uint32_t n = head->n, present = (head->phase >> 8) << 16 | (head->phase & 0xFF) << 24;
+    const uint32_t n = head->n, present = present_of(head);
     const uint32_t never = head->phase == 1 ? ~1u : ~0x101u;
     uint64_t values = 0, statuses = 0;
     size_t i;
@@ -112,7 +118,7 @@ static int read_odd(const struct quick_head *head, const uint8_t *list, size_t c
 static int read_even(const struct quick_head *head, const uint8_t *list, size_t count,
                      struct said *said, struct others *others)
 {
-    const uint32_t n = head->n, present = (head->phase >> 8) << 16 | (head->phase & 0xFF) << 24;
+    const uint32_t n = head->n, present = present_of(head);
     const uint32_t never = head->phase == 2 ? ~3u : ~0x103u;
     uint64_t values = 0, statuses = 0;
     uint32_t blanks = 0, broken = 0;
@@ -145,8 +151,7 @@ APART static int look_up(const struct quick_head *head, const uint8_t *list, siz
     const uint32_t sender = ballot[0], state = low_first(ballot + 1);
     const uint32_t phase = (uint32_t)ballot[3] << 8 | ballot[4];
     uint32_t at = (sender * 37 + phase * 5) % SLOTS;
-    if (sender >= head->n || ballot[1] > BLANK || ballot[2] > DECIDED
-        || !(allowed_at(phase) >> (2 * ballot[1] + ballot[2]) & 1))
+    if (!stands(head, ballot))
         return 0;
     if (!others->used) {
         others->used = 1;
@@ -174,6 +179,12 @@ static uint32_t low_first(const uint8_t *at)
     uint32_t word;
     __builtin_memcpy(&word, at, sizeof word);
     return word;
+}
+
+/* The head's phase as it stands in these, with zeros for value and status. */
+static uint32_t present_of(const struct quick_head *head)
+{
+    return (head->phase >> 8) << 16 | (head->phase & 0xFF) << 24;
 }
 
 /* Step 2: the highest phase, its sets, and the state that its lowest sender gives. */
@@ -262,6 +273,73 @@ static void step(struct quick_head *head, uint32_t coin)
     head->zeros = head->ones = head->blanks = 0;
 }
 
+/* ---- The index of a refusal: a search apart, so that an accepted list does not pay for it */
+
+/* The number was given, so that there is such a ballot. */
+APART static size_t first_offending(const struct quick_head *head, const uint8_t *list,
+                                    uint32_t number)
+{
+    return number == 6 ? first_breaking(head, list)
+        : number == 7  ? first_otherwise(head, list)
+                       : first_differing(head, list);
+}
+
+static size_t first_breaking(const struct quick_head *head, const uint8_t *list)
+{
+    const uint32_t n = head->n, present = present_of(head), allowed = allowed_at(head->phase);
+    size_t i;
+    for (i = 0;; i++) {
+        const uint8_t *ballot = list + i * BALLOT_BYTES;
+        const uint32_t code = low_first(ballot + 1) ^ present;
+        if (code > 0xFFFF) {
+            if (!stands(head, ballot))
+                return i;
+            continue;
+        }
+        if (ballot[0] >= n || (code & ~0x103u) != 0
+            || !(allowed >> (2 * (code & 3) + (code >> 8)) & 1))
+            return i;
+    }
+}
+
+static size_t first_otherwise(const struct quick_head *head, const uint8_t *list)
+{
+    size_t i;
+    for (i = 0;; i++) {
+        const uint8_t *ballot = list + i * BALLOT_BYTES;
+        const uint32_t phase = (uint32_t)ballot[3] << 8 | ballot[4];
+        if (ballot[0] != head->own || phase < head->phase)
+            continue;
+        if (phase > head->phase || ballot[1] != head->value || ballot[2] != head->status)
+            return i;
+    }
+}
+
+/* At the head's phase a ballot is compared with its sender's first, and that with what is held. The
+ * others go through the table once more. */
+static size_t first_differing(const struct quick_head *head, const uint8_t *list)
+{
+    const uint32_t all = head->zeros | head->ones | head->blanks, present = present_of(head);
+    const uint32_t unlike[3] = { all & ~head->zeros, all & ~head->ones, all & ~head->blanks };
+    uint32_t first[32] = { 0 }; /* the phase is in it, so that 0 is none */
+    struct others others;
+    size_t i;
+    others.used = others.phase = others.own_ahead = others.differ = 0;
+    for (i = 0;; i++) {
+        const uint8_t *ballot = list + i * BALLOT_BYTES;
+        const uint32_t sender = ballot[0], state = low_first(ballot + 1);
+        if ((state ^ present) > 0xFFFF) {
+            look_up(head, list, i, &others);
+            if (others.differ != 0)
+                return i;
+            continue;
+        }
+        if (first[sender] == 0 ? unlike[ballot[1]] >> sender & 1 : first[sender] != state)
+            return i;
+        first[sender] = state;
+    }
+}
+
 /* ---- Rules */
 
 static uint32_t allowed_at(uint32_t phase)
@@ -269,6 +347,13 @@ static uint32_t allowed_at(uint32_t phase)
     if (phase > 2)
         return phase % 2 == 1 ? ALLOWED_ODD : ALLOWED_EVEN;
     return phase == 1 ? ALLOWED_FIRST : phase == 2 ? ALLOWED_SECOND : 0;
+}
+
+static int stands(const struct quick_head *head, const uint8_t *ballot)
+{
+    const uint32_t phase = (uint32_t)ballot[3] << 8 | ballot[4];
+    return ballot[0] < head->n && ballot[1] <= BLANK && ballot[2] <= DECIDED
+        && (allowed_at(phase) >> (2 * ballot[1] + ballot[2]) & 1);
 }
 
 /* The codes of value, status and decision are in range: a record is tested before it is read. */
@@ -369,15 +454,18 @@ uint32_t quick_start(uint8_t *record, size_t record_len, uint32_t n, uint32_t ow
 }
 
 uint32_t quick_tick(uint8_t *record, size_t record_len, const uint8_t *ballots, size_t ballots_len,
-                    uint32_t coin)
+                    uint32_t coin, size_t *index)
 {
     struct quick_head head;
     uint32_t number;
+    *index = 0;
     if (!load(&head, record, record_len))
         return 3;
     number = quick_tick_head(&head, ballots, ballots_len, coin);
     if (number == 0)
         store(record, &head);
+    else if (number >= 6 && number <= 8)
+        *index = first_offending(&head, ballots, number);
     return number;
 }
 

@@ -25,10 +25,11 @@ struct quick_head {
 uint32_t quick_start(uint8_t *record, size_t record_len, uint32_t n, uint32_t own,
                      uint32_t proposal);
 uint32_t quick_tick(uint8_t *record, size_t record_len, const uint8_t *ballots, size_t ballots_len,
-                    uint32_t coin);
+                    uint32_t coin, size_t *index);
 uint32_t quick_ballot(const uint8_t *record, size_t record_len, uint8_t *ballot, size_t ballot_len);
 
-/* The same by value, for the bench. A refused tick leaves the head as it came. */
+/* The same by value, for the bench. A refused tick leaves the head as it came. No index: no tick of
+ * a run is refused. */
 uint32_t quick_start_head(struct quick_head *head, uint32_t n, uint32_t own, uint32_t proposal);
 uint32_t quick_tick_head(struct quick_head *head, const uint8_t *ballots, size_t ballots_len,
                          uint32_t coin);

@@ -98,12 +98,15 @@ static void make_refused(void)
     add_senders(input, HEADS - 1, HEADS, 1);
     input->record[19] = 1; /* heard blank at an odd phase */
     input = begin("refused 6, the last of 64", 6, 1);
+    input->index = 63;
     add_all_but_last(input, 1);
     add(input, HEADS - 1, ONE, UNDECIDED, 0);
     input = begin("refused 7, the last of 64", 7, 1);
+    input->index = 63;
     add_all_but_last(input, 1);
     add(input, 0, ONE, UNDECIDED, 2);
     input = begin("refused 8, the last of 64", 8, 1);
+    input->index = 63;
     add_all_but_last(input, 1);
     add(input, HEADS - 1, ZERO, UNDECIDED, 1);
     input = begin("refused 9, 32 ballots", 9, 4);
@@ -171,6 +174,7 @@ static void make_hostile(void)
         add_senders(input, sender, sender + 1, 3);
     }
     input = begin("refused 8, the second of 64", 8, 1);
+    input->index = 1;
     add_senders(input, 1, 2, 1);
     add(input, 1, ZERO, UNDECIDED, 1);
     add_senders(input, 0, HEADS, 1);

@@ -11,6 +11,7 @@ enum { INPUTS_MOST = 32, HEADS = 32 };
 struct input {
     const char *name;
     uint32_t number; /* that the tick must give */
+    size_t index;    /* and the index with it */
     uint8_t record[RECORD_BYTES];
     uint8_t list[BALLOTS_BYTES_MOST];
     size_t length;

@@ -1,7 +1,8 @@
 /*
  * Times the archive of vote and engine.c side by side, and prints both times and their ratio.
  *
- * First every input goes through both: numbers and records must be equal, or nothing is timed.
+ * First every input goes through both: numbers, indexes and records must be equal, or nothing is
+ * timed.
  * Then samples of the two alternate, so that whatever else the machine does falls on both alike,
  * and the medians are taken. A sample is the processor's time for many calls on end; each call of a
  * tick puts the record back first, which is in the figures of both.
@@ -30,7 +31,7 @@ struct engine {
     uint32_t (*start)(uint8_t *record, size_t record_len, uint32_t n, uint32_t own,
                       uint32_t proposal);
     uint32_t (*tick)(uint8_t *record, size_t record_len, const uint8_t *ballots,
-                     size_t ballots_len, uint32_t coin);
+                     size_t ballots_len, uint32_t coin, size_t *index);
     uint32_t (*ballot)(const uint8_t *record, size_t record_len, uint8_t *ballot,
                        size_t ballot_len);
 };
@@ -54,15 +55,18 @@ static void measure_growth(const struct row *of_sizes);
 static int same_tick(const struct input *input)
 {
     uint8_t a[RECORD_BYTES], b[RECORD_BYTES];
+    size_t index_of_ours = (size_t)-1, index_of_quick = (size_t)-1;
     uint32_t by_ours, by_quick;
     __builtin_memcpy(a, input->record, sizeof a);
     __builtin_memcpy(b, input->record, sizeof b);
-    by_ours = vote_tick(a, sizeof a, input->list, input->length, input->coin);
-    by_quick = quick_tick(b, sizeof b, input->list, input->length, input->coin);
-    if (by_ours == input->number && by_quick == input->number && memcmp(a, b, sizeof a) == 0)
+    by_ours = vote_tick(a, sizeof a, input->list, input->length, input->coin, &index_of_ours);
+    by_quick = quick_tick(b, sizeof b, input->list, input->length, input->coin, &index_of_quick);
+    if (by_ours == input->number && by_quick == input->number && index_of_ours == input->index
+        && index_of_quick == input->index && memcmp(a, b, sizeof a) == 0)
         return 1;
-    printf("%s: ours gives %u, the C %u, expected %u; records %s\n", input->name, by_ours, by_quick,
-           input->number, memcmp(a, b, sizeof a) == 0 ? "equal" : "differ");
+    printf("%s: ours gives %u and index %zu, the C %u and %zu, expected %u and %zu; records %s\n",
+           input->name, by_ours, index_of_ours, by_quick, index_of_quick, input->number,
+           input->index, memcmp(a, b, sizeof a) == 0 ? "equal" : "differ");
     return 0;
 }
 
@@ -70,9 +74,11 @@ static void tick(const struct engine *engine, const void *with, long times)
 {
     const struct input *input = with;
     uint8_t record[RECORD_BYTES];
+    size_t index;
     while (times-- > 0) {
         __builtin_memcpy(record, input->record, sizeof record);
-        answer = engine->tick(record, sizeof record, input->list, input->length, input->coin);
+        answer = engine->tick(record, sizeof record, input->list, input->length, input->coin,
+                              &index);
     }
 }
 
@@ -118,6 +124,7 @@ static void rounds(const struct engine *engine, uint32_t n)
 {
     uint8_t list[HEADS * BALLOT_BYTES];
     uint32_t round, head;
+    size_t index;
     for (head = 0; head < n; head++)
         answer = engine->start(heads[head], RECORD_BYTES, n, head, head % 2);
     for (round = 0; round < ROUNDS; round++) {
@@ -126,7 +133,7 @@ static void rounds(const struct engine *engine, uint32_t n)
                                     BALLOT_BYTES);
         for (head = 0; head < n; head++)
             answer = engine->tick(heads[head], RECORD_BYTES, list, n * BALLOT_BYTES,
-                                  coin_of(round, head));
+                                  coin_of(round, head), &index);
     }
 }
 

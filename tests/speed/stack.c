@@ -16,29 +16,30 @@ int printf(const char *format, ...);
 enum { STACK_BYTES = 65536, CONTROL_BYTES = 2048 };
 
 typedef uint64_t word;
-typedef void entry(void); /* any function of up to five numbers or pointers */
+typedef void entry(void); /* any function of up to six numbers or pointers */
 
 static uint8_t stack[STACK_BYTES] __attribute__((aligned(16)));
 
 /* Calls a function with the stack pointer at `top`. */
-static word call_on(uint8_t *top, entry *called, const word with[5])
+static word call_on(uint8_t *top, entry *called, const word with[6])
 {
     register word fifth __asm__("r8") = with[4];
+    register word sixth __asm__("r9") = with[5];
     word a = with[0], b = with[1], c = with[2], d = with[3], given;
     __asm__ volatile("movq %%rsp, %%rbx\n\t"
                      "movq %[top], %%rsp\n\t"
                      "callq *%[called]\n\t"
                      "movq %%rbx, %%rsp"
-                     : "=a"(given), "+D"(a), "+S"(b), "+d"(c), "+c"(d), "+r"(fifth)
+                     : "=a"(given), "+D"(a), "+S"(b), "+d"(c), "+c"(d), "+r"(fifth), "+r"(sixth)
                      : [top] "r"(top), [called] "r"(called)
-                     : "rbx", "r9", "r10", "r11", "cc", "memory", "xmm0", "xmm1", "xmm2", "xmm3",
-                       "xmm4", "xmm5", "xmm6", "xmm7", "xmm8", "xmm9", "xmm10", "xmm11", "xmm12",
-                       "xmm13", "xmm14", "xmm15");
+                     : "rbx", "r10", "r11", "cc", "memory", "xmm0", "xmm1", "xmm2", "xmm3", "xmm4",
+                       "xmm5", "xmm6", "xmm7", "xmm8", "xmm9", "xmm10", "xmm11", "xmm12", "xmm13",
+                       "xmm14", "xmm15");
     return given;
 }
 
 /* Bytes from the top of the stack to the deepest one that lost its paint. */
-static size_t depth_with(uint8_t paint, entry *called, const word with[5])
+static size_t depth_with(uint8_t paint, entry *called, const word with[6])
 {
     size_t deepest = 0;
     for (size_t i = 0; i < STACK_BYTES; i++)
@@ -59,8 +60,9 @@ static size_t deeper(size_t a, size_t b)
 static size_t tick_depth(entry *called, const struct input *input)
 {
     static uint8_t record[RECORD_BYTES];
-    const word with[5] = { (word)record, sizeof record, (word)input->list, input->length,
-                           input->coin };
+    static size_t index;
+    const word with[6] = { (word)record, sizeof record, (word)input->list, input->length,
+                           input->coin, (word)&index };
     size_t first;
     __builtin_memcpy(record, input->record, sizeof record);
     first = depth_with(0xA5, called, with);
@@ -71,7 +73,7 @@ static size_t tick_depth(entry *called, const struct input *input)
 static size_t start_depth(entry *called, uint32_t n)
 {
     static uint8_t record[RECORD_BYTES];
-    const word with[5] = { (word)record, sizeof record, n, 7, 1 };
+    const word with[6] = { (word)record, sizeof record, n, 7, 1, 0 };
     return deeper(depth_with(0xA5, called, with), depth_with(0x5A, called, with));
 }
 
@@ -79,16 +81,16 @@ static size_t start_depth(entry *called, uint32_t n)
 static size_t ballot_depth(entry *called, const struct input *input, size_t length)
 {
     static uint8_t buffer[BALLOTS_BYTES_MOST];
-    const word with[5] = { (word)input->record, sizeof input->record, (word)buffer, length, 0 };
+    const word with[6] = { (word)input->record, sizeof input->record, (word)buffer, length, 0, 0 };
     return deeper(depth_with(0xA5, called, with), depth_with(0x5A, called, with));
 }
 
 /* A function of known depth, to see that the paint shows it. */
-static word control(word a, word b, word c, word d, word e)
+static word control(word a, word b, word c, word d, word e, word f)
 {
     volatile uint8_t room[CONTROL_BYTES];
     for (size_t i = 0; i < sizeof room; i++)
-        room[i] = (uint8_t)(a + b + c + d + e + i);
+        room[i] = (uint8_t)(a + b + c + d + e + f + i);
     return room[CONTROL_BYTES / 2];
 }
 
@@ -99,7 +101,7 @@ static void print(const char *name, size_t of_ours, size_t of_quick)
 
 int main(void)
 {
-    static const word none[5] = { 0, 0, 0, 0, 0 };
+    static const word none[6] = { 0, 0, 0, 0, 0, 0 };
     const size_t count = make_inputs(), known = depth_with(0xA5, (entry *)control, none);
     size_t most = 0;
     if (known < CONTROL_BYTES || known > CONTROL_BYTES + 256) {
