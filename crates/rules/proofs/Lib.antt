@@ -2,6 +2,7 @@ pub mod Demands
 pub mod DemandsApplied
 pub mod Offender
 pub mod OffenderApplied
+pub mod OffenderDropped
 pub mod Computed
 pub mod Counting
 pub mod Meaning

@@ -11,10 +11,10 @@ use lib.ListN.{length}
 use borrow.Author.Tests.{ltb-true, ne-eqb}
 use Rattle.rules.specs.declared.Head.{Head}
 use Rattle.rules.specs.Below.{first, some}
-use Rattle.rules.specs.Ballot.{ballotAt, breaksRule, readNumber, readIndex}
-use Rattle.rules.specs.Tick.{ballots, ownOtherwise, contradicts, tickNumber, offender, tickIndex}
+use Rattle.rules.specs.Ballot.{ballotAt, readNumber, readIndex}
+use Rattle.rules.specs.Tick.{ballots, tickNumber, offender, tickIndex}
 use Rattle.rules.specs.Record.{headAt, notSound, tickNumberFromC, tickIndexFromC}
-use Rattle.rules.specs.Given.{At, Given, Breaks, FirstBallot, Offender, by-rule, by-own, by-difference, by-none, readTable, tickTable}
+use Rattle.rules.specs.Given.{At, Given, Breaks, OwnOtherwise, FirstBallot, Contradicts, Offender, by-rule, by-own, by-difference, by-none, readTable, tickTable}
 use Rattle.rules.proofs.Counting.Truth.{Means, not-false, not-not, means-eq}
 use Rattle.rules.proofs.Counting.Below.{first-holds, first-before, first-at, means-some}
 use Rattle.rules.proofs.Meaning.Given.{Applying, given-applies, means-breaks, means-own, means-contradicts, means-difference, tick-given, read-given}
@@ -34,6 +34,27 @@ first-ballot l {p} {P} m found index = (
 alone : {P : Type 0} → At 0 P 0 ⊎ ⊥ → P
 alone (inl x) = x .0
 alone (inr none) = absurd none
+
+-- ---- what the four cases of `Offender` say of a number
+
+pub named-at-6 : {h : Head} {l : List ℕ} {index : ℕ} → Offender h l 6 index → FirstBallot l (Breaks (h .n) l) index
+named-at-6 (by-rule n x) = x
+named-at-6 (by-own n x) = absurd (omega (arith, n))
+named-at-6 (by-difference n x) = absurd (omega (arith, n))
+named-at-6 (by-none a b c x) = absurd (a refl)
+
+pub named-at-7 : {h : Head} {l : List ℕ} {index : ℕ} → Offender h l 7 index
+    → FirstBallot l (λ i. OwnOtherwise h (ballotAt l i)) index
+named-at-7 (by-rule n x) = absurd (omega (arith, n))
+named-at-7 (by-own n x) = x
+named-at-7 (by-difference n x) = absurd (omega (arith, n))
+named-at-7 (by-none a b c x) = absurd (b refl)
+
+pub named-at-8 : {h : Head} {l : List ℕ} {index : ℕ} → Offender h l 8 index → FirstBallot l (Contradicts h l) index
+named-at-8 (by-rule n x) = absurd (omega (arith, n))
+named-at-8 (by-own n x) = absurd (omega (arith, n))
+named-at-8 (by-difference n x) = x
+named-at-8 (by-none a b c x) = absurd (c refl)
 
 -- a number that names no ballot
 at-others : (h : Head) (l : List ℕ) (number index : ℕ) → (number ≡ 6 → ⊥) → (number ≡ 7 → ⊥) → (number ≡ 8 → ⊥)
@@ -59,21 +80,21 @@ a-tick-names-the-first-offending-ballot h l coin index = by (tickNumber h l coin
     at-6 e =
         let is = first-ballot l (means-breaks (h .n) l) (means-some (means-breaks (h .n) l) .1 (alone (applying 6 (λ z. omega (arith, z)) e))) index in (
           λ q. by-rule refl (is .0 q),
-          λ o. elim o [ by-rule n x ↦ is .1 x | by-own n x ↦ absurd (omega (arith, n)) | by-difference n x ↦ absurd (omega (arith, n)) | by-none a b c x ↦ absurd (a refl) ],
+          λ o. is .1 (named-at-6 o),
         )
 
     at-7 : tickNumber h l coin ≡ 7 → Named 7
     at-7 e =
         let is = first-ballot l (λ i. means-own h (ballotAt l i)) (means-some (λ i. means-own h (ballotAt l i)) .1 (alone (applying 7 (λ z. omega (arith, z)) e))) index in (
           λ q. by-own refl (is .0 q),
-          λ o. elim o [ by-rule n x ↦ absurd (omega (arith, n)) | by-own n x ↦ is .1 x | by-difference n x ↦ absurd (omega (arith, n)) | by-none a b c x ↦ absurd (b refl) ],
+          λ o. is .1 (named-at-7 o),
         )
 
     at-8 : tickNumber h l coin ≡ 8 → Named 8
     at-8 e =
         let is = first-ballot l (means-contradicts h l) (means-difference h l .1 (alone (applying 8 (λ z. omega (arith, z)) e))) index in (
           λ q. by-difference refl (is .0 q),
-          λ o. elim o [ by-rule n x ↦ absurd (omega (arith, n)) | by-own n x ↦ absurd (omega (arith, n)) | by-difference n x ↦ is .1 x | by-none a b c x ↦ absurd (c refl) ],
+          λ o. is .1 (named-at-8 o),
         )
 
     by : (number : ℕ) → tickNumber h l coin ≡ number → Named number

@@ -1,6 +1,6 @@
--- Every theorem of Offender, applied by its name to a case that needs all of it: from the index to its sentence, from the
--- sentence to its index, and what a caller may rest on.
-use Prim.Native.Nat.{ℕ, _<_}
+-- Every theorem of Offender, applied by its name to a case that needs all of it: from the index to its sentence, and from
+-- the sentence to its index.
+use Prim.Native.Nat.{ℕ}
 use mathlib.Core.Path.{_≡_, refl, ap, subst}
 use mathlib.Core.List.{List, [], _∷_}
 use mathlib.Core.Logic.{inl, inr}
@@ -11,9 +11,9 @@ use Rattle.rules.specs.declared.Status.the-variants.{Undecided as u}
 use Rattle.rules.specs.declared.Decision.the-variants.{Unwritten as none}
 use Rattle.rules.specs.declared.Head.{Head}
 use Rattle.rules.specs.Ballot.{valueCode, ballot, encode, ballotAt}
-use Rattle.rules.specs.Tick.{ballots, tickNumber, tickIndex}
+use Rattle.rules.specs.Tick.{tickIndex}
 use Rattle.rules.specs.Record.{recordOf, headAt, tickNumberFromC, tickIndexFromC}
-use Rattle.rules.specs.Given.{Breaks, OwnOtherwise, SoundRecord, FirstBallot, Contradicts, Offender, by-rule, by-own, by-difference, by-none}
+use Rattle.rules.specs.Given.{Breaks, OwnOtherwise, SoundRecord, FirstBallot, Contradicts, by-difference, by-none}
 use Rattle.rules.specs.Sixteen.{start, head}
 use Rattle.rules.proofs.Counting.Truth.{never}
 use Rattle.rules.proofs.Computed.Computing.{computing}
@@ -23,31 +23,13 @@ use Rattle.rules.proofs.Offender as O
 
 -- ---- from the index to its sentence
 
-broken : {h : Head} {l : List ℕ} {index : ℕ} → Offender h l 6 index → FirstBallot l (Breaks (h .n) l) index
-broken (by-rule n x) = x
-broken (by-own n x) = absurd (omega (arith, n))
-broken (by-difference n x) = absurd (omega (arith, n))
-broken (by-none a b c x) = absurd (a refl)
-
-owned : {h : Head} {l : List ℕ} {index : ℕ} → Offender h l 7 index → FirstBallot l (λ i. OwnOtherwise h (ballotAt l i)) index
-owned (by-rule n x) = absurd (omega (arith, n))
-owned (by-own n x) = x
-owned (by-difference n x) = absurd (omega (arith, n))
-owned (by-none a b c x) = absurd (b refl)
-
-differing : {h : Head} {l : List ℕ} {index : ℕ} → Offender h l 8 index → FirstBallot l (Contradicts h l) index
-differing (by-rule n x) = absurd (omega (arith, n))
-differing (by-own n x) = absurd (omega (arith, n))
-differing (by-difference n x) = x
-differing (by-none a b c x) = absurd (c refl)
-
 -- a 7 at index 0 and a 6 at index 2: the number is chosen first
 abbrev ownThenBroken : List ℕ
 ownThenBroken = encode (ballot 0 2 One u ∷ ballot 1 1 One u ∷ ballot 2 1 Blank u ∷ [])
 
 pub six-is-named-after-a-seven : FirstBallot ownThenBroken (Breaks 3 ownThenBroken) 2
 unfolding computing
-six-is-named-after-a-seven = broken (O.a-tick-names-the-first-offending-ballot (start 3) ownThenBroken 0 2 .0 refl)
+six-is-named-after-a-seven = O.named-at-6 (O.a-tick-names-the-first-offending-ballot (start 3) ownThenBroken 0 2 .0 refl)
 
 -- own ballots that the head may have sent, at its phase and below, are passed over
 abbrev ownEarlier : List ℕ
@@ -56,7 +38,7 @@ ownEarlier = encode (ballot 0 1 Zero u ∷ ballot 0 2 One u ∷ ballot 0 2 Zero 
 pub the-first-own-ballot-otherwise-is-named : FirstBallot ownEarlier (λ i. OwnOtherwise (head 3 2 One u none 0) (ballotAt ownEarlier i)) 2
 unfolding computing
 the-first-own-ballot-otherwise-is-named =
-    owned (O.a-tick-names-the-first-offending-ballot (head 3 2 One u none 0) ownEarlier 0 2 .0 refl)
+    O.named-at-7 (O.a-tick-names-the-first-offending-ballot (head 3 2 One u none 0) ownEarlier 0 2 .0 refl)
 
 -- of two pairs, the ballot that ends one of them first; not the earlier of a pair
 abbrev twoPairs : List ℕ
@@ -65,12 +47,12 @@ twoPairs = encode (ballot 1 1 One u ∷ ballot 2 1 One u ∷ ballot 2 1 Zero u �
 pub the-pair-that-ends-first-is-named : FirstBallot twoPairs (Contradicts (start 5) twoPairs) 2
 unfolding computing
 the-pair-that-ends-first-is-named =
-    differing (O.a-tick-names-the-first-offending-ballot (start 5) twoPairs 0 2 .0 refl)
+    O.named-at-8 (O.a-tick-names-the-first-offending-ballot (start 5) twoPairs 0 2 .0 refl)
 
 pub the-same-from-c : FirstBallot twoPairs (Contradicts (headAt (recordOf (start 5))) twoPairs) 2
 unfolding computing
 the-same-from-c =
-    differing (O.a-tick-from-c-names-the-first-offending-ballot (recordOf (start 5)) twoPairs 0 2 .0 refl)
+    O.named-at-8 (O.a-tick-from-c-names-the-first-offending-ballot (recordOf (start 5)) twoPairs 0 2 .0 refl)
 
 pub the-only-ballot-is-named : FirstBallot (3 ∷ 1 ∷ 1 ∷ 1 ∷ 44 ∷ []) (Breaks 3 (3 ∷ 1 ∷ 1 ∷ 1 ∷ 44 ∷ [])) 0
 unfolding computing
@@ -109,21 +91,3 @@ no-record-names-none r l coin unsound =
     let three : tickNumberFromC r l coin ≡ 3 = D.a-tick-from-c-is-refused-by-the-first-number-that-applies r l coin 3 .1 (applies unsound) in
     O.a-tick-from-c-names-the-first-offending-ballot r l coin 0 .1
     (by-none (λ z. omega (arith, three, z)) (λ z. omega (arith, three, z)) (λ z. omega (arith, three, z)) refl)
-
--- ---- what a caller may rest on: at 6, 7 and 8 there is a ballot at the index
-
-in-the-list : {h : Head} {l : List ℕ} {number index : ℕ} → 5 < number → number < 9 → Offender h l number index → index < ballots l
-in-the-list low high (by-rule n x) = x .0
-in-the-list low high (by-own n x) = x .0
-in-the-list low high (by-difference n x) = x .0
-in-the-list low high (by-none a b c x) = absurd (omega (arith, low, high, a, b, c))
-
-pub a-named-ballot-is-in-the-list : (h : Head) (l : List ℕ) (coin : ℕ) → 5 < tickNumber h l coin → tickNumber h l coin < 9
-    → tickIndex h l coin < ballots l
-a-named-ballot-is-in-the-list h l coin low high =
-    in-the-list low high (O.a-tick-names-the-first-offending-ballot h l coin (tickIndex h l coin) .0 refl)
-
-pub a-ballot-named-from-c-is-in-the-list : (r l : List ℕ) (coin : ℕ) → 5 < tickNumberFromC r l coin → tickNumberFromC r l coin < 9
-    → tickIndexFromC r l coin < ballots l
-a-ballot-named-from-c-is-in-the-list r l coin low high =
-    in-the-list low high (O.a-tick-from-c-names-the-first-offending-ballot r l coin (tickIndexFromC r l coin) .0 refl)
