@@ -1,4 +1,5 @@
-//! The bench once more, from document 01 alone: the rounds of a run file, the figures, the report.
+//! The bench once more, from document 01 and W2 alone: the rounds of a run file, the figures, the
+//! report.
 
 use crate::engine;
 use crate::runfile::{self, Refusal, Round, RunFile};
@@ -24,9 +25,9 @@ fn report_of(run: &RunFile) -> String {
     for head in &heads {
         writeln!(text, "{}", head_line(head)).expect("a string takes all");
     }
-    // "Last line: rounds run, good rounds, heads whose status is decided."
+    // "Last line: rounds run, good rounds," and by W2 the "heads whose decision is written".
     let good = run.rounds.iter().filter(|round| is_good(run, round)).count();
-    let decided = heads.iter().filter(|head| head[5] == 1).count();
+    let decided = heads.iter().filter(|head| head[6] != 2).count();
     text + &format!("rounds {} good {good} decided {decided}\n", run.rounds.len())
 }
 

@@ -83,7 +83,7 @@ impl FileTally {
         );
         let [zeros, ones] = self.last_decided;
         println!(
-            "heads at the end: decided 0 {zeros}, decided 1 {ones}, blank {}",
+            "heads at the end: status decided with 0 {zeros}, with 1 {ones}; value blank {}",
             self.last_blank
         );
         println!("heads at the end that are undecided with a decision {}", self.last_unlike);

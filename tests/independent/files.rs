@@ -10,6 +10,7 @@ pub fn invent(chance: &mut Chance) -> Case {
     let run = match chance.below(10) {
         0 => put_back(chance),
         1 => long(chance),
+        2 => cut_off(chance),
         _ => {
             let rounds = chance.of(&[0, 1, 2, 2, 3, 3, 4, 4, 5, 6, 8, 12]);
             let n = draw_n(chance);
@@ -74,25 +75,25 @@ fn coins(chance: &mut Chance, n: usize, habit: usize) -> Vec<u8> {
         .collect()
 }
 
-/// Head `one` decides alone, misses a round, then hears one later ballot that is undecided: its
-/// status goes back and its decision stays.
+/// The first of the order decides alone, misses a round, then hears one later ballot that is
+/// undecided: its status goes back and its decision stays. In that round the others hear nobody and
+/// have written nothing; or they hear all and decide.
 fn put_back(chance: &mut Chance) -> RunFile {
     let n = draw_n(chance).max(3);
     let half = n / 2 + 1;
-    let mut order: Vec<usize> = (0..n).collect();
-    chance.shuffle(&mut order);
+    let order = any_order(chance, n);
     // Those whom a majority hears with one value, and those among whom one value is one short.
     let (agreed, mixed) = (0..half, 1..half + 1);
-    let nobody = 0..0;
+    let (nobody, all) = (0..0, 0..n);
+    let last = if chance.one_in(2) { &nobody } else { &all };
     // By place in the order: whom the first, the others of the majority, and the rest hear.
     let hears = [
         [&agreed, &agreed, &mixed],
         [&agreed, &mixed, &mixed],
         [&nobody, &mixed, &mixed],
-        [&(1..2), &nobody, &nobody],
+        [&(1..2), last, last],
     ];
-    let mut proposals = vec![0; n];
-    order[..half].iter().for_each(|&head| proposals[head] = 1);
+    let proposals = proposed_by(chance, &order[..half], n);
     let kind = |place: usize| (place > 0) as usize + (place >= half) as usize;
     let round = |heard: &[&std::ops::Range<usize>; 3]| {
         let pairs = (0..n).flat_map(|receiver| (0..n).map(move |sender| (receiver, sender)));
@@ -101,6 +102,33 @@ fn put_back(chance: &mut Chance) -> RunFile {
     };
     let rounds = hears.iter().map(round).map(|lost| Round { lost, coins: vec![0; n] }).collect();
     RunFile { proposals, need: half, rounds }
+}
+
+/// Some heads, fewer than half, hear nobody. The others hear all and decide in two rounds: as many
+/// have written as were needed or more, and not all.
+fn cut_off(chance: &mut Chance) -> RunFile {
+    let n = draw_n(chance).max(3);
+    let half = n / 2 + 1;
+    let order = any_order(chance, n);
+    let (deaf, others) = order.split_at(1 + chance.below(n - half));
+    let proposals = proposed_by(chance, &others[..half], n);
+    let need = chance.between(half as u32, others.len() as u32) as usize;
+    let pairs = deaf.iter().flat_map(|&receiver| (0..n).map(move |sender| (receiver, sender)));
+    let round = Round { lost: pairs.collect::<Lost>(), coins: vec![0; n] };
+    let rounds = chance.between(2, 4) as usize;
+    RunFile { proposals, need, rounds: vec![round; rounds] }
+}
+
+fn any_order(chance: &mut Chance, n: usize) -> Vec<usize> {
+    let mut order: Vec<usize> = (0..n).collect();
+    chance.shuffle(&mut order);
+    order
+}
+
+/// One bit by the heads that are named, the other by all others.
+fn proposed_by(chance: &mut Chance, heads: &[usize], n: usize) -> Vec<u8> {
+    let bit = chance.bit() as u8;
+    (0..n).map(|head| if heads.contains(&head) { bit } else { 1 - bit }).collect()
 }
 
 /// One fault, anywhere in the file.

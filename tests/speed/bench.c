@@ -215,7 +215,7 @@ static void put_run(const struct run *run, uint32_t good)
     put("\n");
     for (i = 0; i < run->n; i++) {
         put_head(&heads[i]);
-        decided += heads[i].status == DECIDED;
+        decided += heads[i].decision != NONE; /* W2: "heads whose decision is written" */
     }
     put_number("rounds ", run->rounds);
     put_number(" good ", good);

@@ -1,4 +1,4 @@
-"""The bench of document 01: the report of a run file.
+"""The bench of document 01 and W2: the report of a run file.
 
 tools/run_file.py reads the file, and the heads are those of engine.py.
 tests/independent/errors.py puts errors into this text and into that of
@@ -26,7 +26,8 @@ def report(data):
     text = "heads %d need %d bound %d\n" % (n, need, bound)
     for head in heads:
         text += head_line(head)
-    decided = sum(1 for head in heads if head.status == engine.DECIDED)
+    # W2: "The last figure counts heads whose decision is written."
+    decided = sum(1 for head in heads if head.decision != engine.NONE)
     return text + "rounds %d good %d decided %d\n" % (rounds, good, decided)
 
 

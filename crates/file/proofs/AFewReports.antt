@@ -44,9 +44,9 @@ pub loss-and-coin-prints : reportOf loss-and-coin ≡
 unfolding reporting
 loss-and-coin-prints = refl
 
--- Five heads: head 0 decides in the second round, misses the third and copies an undecided ballot in the fourth. "Step
--- 2 can put status back to undecided. The decision stays.": five decisions are written, all of them 0, and four heads
--- are decided.
+-- W2's vote of five heads: head 0 decides in the second round, misses the third and copies an undecided ballot in the
+-- fourth. "Step 2 can put status back to undecided. The decision stays.": four heads have the status decided, five
+-- decisions are written, all of them 0, and five are counted.
 abbrev pub status-put-back : List ℕ
 status-put-back =
     (0 ∷ 5 ∷ 0 ∷ 0 ∷ 0 ∷ 1 ∷ 1 ∷ []) ++ (0 ∷ 1 ∷ 3 ∷ [])
@@ -65,7 +65,7 @@ pub status-put-back-prints : reportOf status-put-back ≡
     ++ word "head 2 phase 5 value 0 status decided decision 0\n"
     ++ word "head 3 phase 5 value 0 status decided decision 0\n"
     ++ word "head 4 phase 5 value 0 status decided decision 0\n"
-    ++ word "rounds 4 good 1 decided 4\n"
+    ++ word "rounds 4 good 1 decided 5\n"
 unfolding reporting
 status-put-back-prints = refl
 
@@ -118,8 +118,8 @@ pub ten-rounds-print : reportOf ten-rounds ≡
 unfolding reporting
 ten-rounds-print = refl
 
--- Two heads in a lent table of four: the third could be ticked with their ballots, and the fourth is decided. "after a
--- run the first n are the heads and the others are untouched", nor are they counted.
+-- Two heads in a lent table of four: the third could be ticked with their ballots, and the fourth has a decision. "after
+-- a run the first n are the heads and the others are untouched", nor are they counted.
 abbrev pub two-heads : List ℕ
 two-heads = (0 ∷ 2 ∷ 0 ∷ 1 ∷ []) ++ (0 ∷ 1 ∷ 2 ∷ []) ++ (0 ∷ 1 ∷ []) ++ rows (0 ∷ 0 ∷ []) ++ (0 ∷ 2 ∷ 0 ∷ 0 ∷ [])
 

@@ -4,9 +4,11 @@
 use Prim.Native.Nat.{ℕ, _+_, _*_, _≤_, _<_, _^_}
 use mathlib.Core.Path.{_≡_}
 use mathlib.Core.List.{List}
+use mathlib.Core.Bool.{Bool, true}
 use mathlib.Core.Logic.{_↔_}
 use lib.ListN.{length, getD, take, drop}
 use lib.Dec.{leb, eqb}
+use Rattle.rules.specs.declared.Status.the-variants.{Decided}
 use Rattle.rules.specs.declared.Head.{Head}
 use Rattle.rules.specs.Below.{count}
 use Rattle.rules.specs.Ballot.{valueOf}
@@ -26,10 +28,10 @@ use Rattle.file.specs.Benched.{emptyTable, benchedOf}
 use Rattle.file.specs.Report.{reportOf, SameState}
 use Rattle.file.specs.PrintedCase.{printedCase, printed}
 use Rattle.file.proofs.reading.Accepting.{refused-by-first, accepted-exactly-when, refused-by-12-to-16, never-16}
-use Rattle.file.proofs.reading.Accepting.{at-most-41001, largest-accepted, refused-changes-nothing}
+use Rattle.file.proofs.reading.Accepting.{at-most-41001, largest-accepted, refused-changes-nothing, refused-counts-nobody}
 use Rattle.file.proofs.running.Placing.{after-length, after-drop}
 use Rattle.file.proofs.running.TheTable.{table-run, table-heads, table-ticks, table-agrees, table-proposed}
-use Rattle.file.proofs.running.TheTable.{table-decides, figure-counts, good-counts}
+use Rattle.file.proofs.running.TheTable.{table-decides, figure-counts, good-counts, decided-counts, decided-wrote}
 use Rattle.file.proofs.reading.FirstBytes.{the-first-bytes-decide}
 use Rattle.file.proofs.printing.EqualReports.{equal-reports}
 use Rattle.file.proofs.PrintedCase.{it-prints}
@@ -159,6 +161,29 @@ pub the-good-rounds-lose-at-most-the-bound : (file : List ℕ) (table : List Hea
     ≡ count (plan .rounds) (λ r. leb (lostTo (plan .n) (channelFor file table r) (plan .n))
     (boundOf (plan .n) (plan .needed)))
 the-good-rounds-lose-at-most-the-bound = good-counts
+
+-- W2: "The last figure counts heads whose decision is written.": it is the count of a test that is true of a head below
+-- n exactly when the decision of that head, as the table holds it, is written
+pub the-last-figure-counts-written-decisions : (file : List ℕ) (table : List Head)
+    → Accepts file table
+    → (written : ℕ → Bool)
+    × ((s : ℕ) → s < planFor file table .n → (written s ≡ true) ↔ WrittenDecision (headOf (tableAfter file table) s))
+    × (outcomeOf file table .decided ≡ count (planFor file table .n) written)
+the-last-figure-counts-written-decisions = decided-counts
+
+-- a head whose status is decided is among them
+pub a-decided-head-is-counted : (file : List ℕ) (table : List Head)
+    → Accepts file table
+    → (s : ℕ) → s < planFor file table .n
+    → headOf (tableAfter file table) s .status ≡ Decided
+    → WrittenDecision (headOf (tableAfter file table) s)
+a-decided-head-is-counted = decided-wrote
+
+-- of a refused file nobody is
+pub a-refused-file-counts-nobody : (file : List ℕ) (table : List Head)
+    → (Accepts file table → ⊥)
+    → outcomeOf file table .decided ≡ 0
+a-refused-file-counts-nobody = refused-counts-nobody
 
 -- the printed bytes determine what is printed: number and place, n, need, bound, rounds, good, decided, and each head's
 -- phase, value, status and decision. A slice of bytes is shorter than 2 ^ 64.

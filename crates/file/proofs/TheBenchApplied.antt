@@ -3,22 +3,27 @@
 use Prim.Native.Nat.{ℕ, zero, suc, _+_, _*_, _≤_, _<_, _^_}
 use mathlib.Core.Path.{_≡_, refl, sym, ap, subst, _∙_}
 use mathlib.Core.List.{List, [], _∷_, _++_}
-use mathlib.Core.Bool.{false}
+use mathlib.Core.Bool.{Bool, true, false, cond}
 use mathlib.Core.Logic.{inl, inr}
+use native.Mathlib.Decide.{ℕ-discrete}
 use native.Mathlib.Omega.{arith}
 use lib.ListN.{length, getD, take, drop, replicate}
 use lib.Dec.{leb, eqb, lit<, lit≤}
+use Rattle.rules.specs.declared.Status.the-variants.{Undecided}
 use Rattle.rules.specs.declared.Decision.the-variants.{One as ForOne, Unwritten}
 use Rattle.rules.specs.declared.Head.{Head}
 use Rattle.rules.specs.Below.{count}
 use Rattle.rules.specs.Heard.{member}
 use Rattle.rules.specs.Ballot.{valueOf}
-use Rattle.rules.specs.Head.{decisionFor}
+use Rattle.rules.specs.Head.{decisionFor, isDecided}
 use Rattle.rules.specs.Tick.{tickNumber}
 use Rattle.rules.specs.Record.{fourBytesAt}
 use Rattle.rules.specs.Given.{WrittenDecision}
 use Rattle.rules.specs.Run.{headIn, Run}
+use Rattle.rules.proofs.Counting.Below.{count-le}
+use Rattle.rules.proofs.Counting.Counting.{count-more}
 use Rattle.rules.proofs.Counting.Sets.{member-none}
+use Rattle.rules.proofs.Meaning.Meanings.{means-decided}
 use Rattle.file.specs.declared.Plan.{Plan}
 use Rattle.file.specs.declared.Outcome.{Outcome}
 use Rattle.file.specs.Section.{countAt}
@@ -32,7 +37,7 @@ use Rattle.file.specs.Benched.{emptyTable, benchedOf}
 use Rattle.file.specs.Report.{reportOf}
 use Rattle.file.specs.PrintedCase.{printedCase}
 use Rattle.file.proofs.Computing.{reporting}
-use Rattle.file.proofs.AFewReports.{two-heads, others, lent}
+use Rattle.file.proofs.AFewReports.{status-put-back, two-heads, others, lent}
 use Rattle.file.proofs.TheBench.{a-file-is-refused-by-the-first-number-that-applies}
 use Rattle.file.proofs.TheBench.{a-file-is-accepted-exactly-when-its-plan-keeps-every-rule}
 use Rattle.file.proofs.TheBench.{a-file-is-refused-by-12-to-16, a-report-never-gives-16}
@@ -45,6 +50,8 @@ use Rattle.file.proofs.TheBench.{each-decision-in-the-table-was-propose
 use Rattle.file.proofs.TheBench.{a-file-whose-first-two-rounds-lose-nothing-decides}
 use Rattle.file.proofs.TheBench.{the-figure-counts-what-the-channel-loses}
 use Rattle.file.proofs.TheBench.{the-good-rounds-lose-at-most-the-bound}
+use Rattle.file.proofs.TheBench.{the-last-figure-counts-written-decisions, a-decided-head-is-counted}
+use Rattle.file.proofs.TheBench.{a-refused-file-counts-nobody}
 use Rattle.file.proofs.TheBench.{equal-reports-come-from-equal-figures, the-first-41002-bytes-decide}
 use Rattle.file.proofs.TheBench.{the-printed-case-prints}
 use Rattle.rules.specs.Round.{LosesNothing, received}
@@ -250,6 +257,72 @@ two-rounds-are-good = sym (the-good-rounds-lose-at-most-the-bound then-all-is-lo
 
     printed-good : outcomeOf then-all-is-lost emptyTable .good ≡ 2
     printed-good = unfold outcomeOf in (ap (λ (p : Plan). goodIn then-all-is-lost p (p .rounds)) plan-is ∙ good)
+
+-- the last figure is never below the number of heads whose status is decided
+pub never-below-the-decided : (file : List ℕ) (table : List Head)
+    → Accepts file table
+    → count (planFor file table .n) (λ s. isDecided (headOf (tableAfter file table) s)) ≤ outcomeOf file table .decided
+never-below-the-decided file table accepts =
+    let figure = the-last-figure-counts-written-decisions file table accepts in
+    omega (
+      arith,
+      figure .2,
+      count-more (planFor file table .n) (λ s. isDecided (headOf (tableAfter file table) s)) (figure .0) (λ s h decided.
+          figure .1 s h .1 (a-decided-head-is-counted file table accepts s h
+          (means-decided (headOf (tableAfter file table) s) .0 decided))),
+    )
+
+-- a test that is counted k times below k holds there throughout
+all-counted : (k : ℕ) (p : ℕ → Bool) → count k p ≡ k → (s : ℕ) → s < k → p s ≡ true
+unfolding count
+all-counted zero p e s h = absurd (omega arith)
+all-counted (suc k) p e s h = go (ℕ-discrete s k) (p k) refl e (count-le k p) (all-counted k p)
+  where
+    go : Dec (s ≡ k) → (t : Bool) → p k ≡ t → count k p + cond t 1 0 ≡ suc k → count k p ≤ k
+        → (count k p ≡ k → (t : ℕ) → t < k → p t ≡ true) → p s ≡ true
+    go d false last all few below = absurd (omega arith)
+    go (yes same) true last all few below = rw same last
+    go (no other) true last all few below = below (omega arith) s (omega (arith, h, other))
+
+-- so where the figure is n, every head has written the same bit
+pub where-all-are-counted-they-agree : (file : List ℕ) (table : List Head)
+    → Accepts file table
+    → outcomeOf file table .decided ≡ planFor file table .n
+    → (s t : ℕ) → s < planFor file table .n
+    → t < planFor file table .n
+    → WrittenDecision (headOf (tableAfter file table) s)
+    × (headOf (tableAfter file table) s .decision ≡ headOf (tableAfter file table) t .decision)
+where-all-are-counted-they-agree file table accepts all s t hs ht =
+    let figure = the-last-figure-counts-written-decisions file table accepts in
+    let every = all-counted (planFor file table .n) (figure .0) (sym (figure .2) ∙ all) in
+    let wrote-s = figure .1 s hs .0 (every s hs) in
+    let wrote-t = figure .1 t ht .0 (every t ht) in
+    (wrote-s, no-two-decisions-in-the-table-differ file table accepts s t hs ht wrote-s wrote-t)
+
+-- "Five wrote it": in W2's vote head 0, whose status went back, has written what head 4 has
+pub five-wrote-it : let after = tableAfter status-put-back emptyTable in
+    (headOf after 0 .status ≡ Undecided) × WrittenDecision (headOf after 0)
+    × (headOf after 0 .decision ≡ headOf after 4 .decision)
+five-wrote-it =
+    let both = where-all-are-counted-they-agree status-put-back emptyTable accepted five 0 4 (omega (arith, heads))
+    (omega (arith, heads)) in
+    (put-back, both .0, both .1)
+  where
+    accepted : Accepts status-put-back emptyTable
+    accepted = unfold reporting in refl
+
+    heads : planFor status-put-back emptyTable .n ≡ 5
+    heads = unfold reporting in refl
+
+    five : outcomeOf status-put-back emptyTable .decided ≡ planFor status-put-back emptyTable .n
+    five = unfold reporting in refl
+
+    put-back : headOf (tableAfter status-put-back emptyTable) 0 .status ≡ Undecided
+    put-back = unfold reporting in refl
+
+-- a refused file counts nobody, whatever the lent table holds
+pub an-empty-file-counts-nobody : (table : List Head) → outcomeOf [] table .decided ≡ 0
+an-empty-file-counts-nobody table = a-refused-file-counts-nobody [] table (an-empty-file-is-refused table)
 
 -- two refusals that differ in their place only print differently
 pub places-are-told : reportOf [] ≡ reportOf (0 ∷ []) → ⊥

@@ -1,4 +1,5 @@
--- The figures of a run: the bound, the good rounds, the decided heads. Document 01, 'Run file and bench'.
+-- The figures of a run: the bound, the good rounds, the written decisions. Document 01, 'Run file and bench'; the last
+-- figure, W2 of document 02.
 use Prim.Native.Nat.{ℕ, zero, suc, _+_, _*_, _/_, _-_}
 use mathlib.Core.Path.{_≡_}
 use mathlib.Core.List.{List}
@@ -6,7 +7,7 @@ use lib.Dec.{leb}
 use Rattle.rules.specs.declared.Head.{Head}
 use Rattle.rules.specs.Below.{count}
 use Rattle.rules.specs.Heard.{size}
-use Rattle.rules.specs.Head.{isDecided}
+use Rattle.rules.specs.Head.{isWritten}
 use Rattle.rules.specs.Record.{fourBytesAt}
 use Rattle.file.specs.declared.Plan.{Plan}
 use Rattle.file.specs.declared.Outcome.{Outcome}
@@ -27,9 +28,9 @@ abbrev pub goodIn : List ℕ → Plan → ℕ → ℕ
 goodIn file plan rounds =
     count rounds (λ r. leb (lostIn (rowsIn file plan r) (plan .n)) (boundOf (plan .n) (plan .needed)))
 
--- "heads whose status is decided"
+-- W2: "The last figure counts heads whose decision is written."
 abbrev pub decidedIn : List Head → ℕ → ℕ
-decidedIn table n = count n (λ s. isDecided (headOf table s))
+decidedIn table n = count n (λ s. isWritten (headOf table s))
 
 -- what the bench answers
 unfoldable pub outcomeOf : List ℕ → List Head → Outcome

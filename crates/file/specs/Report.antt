@@ -1,5 +1,6 @@
 -- What the program prints. Document 01, 'Run file and bench': "First line: n, k, the good-round bound. One line a head,
--- its last state .. Last line: rounds run, good rounds, heads whose status is decided. A refusal prints one line only".
+-- its last state .. Last line: rounds run, good rounds," and by W2 of document 02 "heads whose decision is written". "A
+-- refusal prints one line only".
 use Prim.Native.Nat.{ℕ, zero, suc, _-_, _^_}
 use Prim.Native.Char.{code}
 use Prim.Native.String.{String, [] as none, _∷_ as _then_}
@@ -68,7 +69,7 @@ headLines (suc k) heads = headLines k heads ++ headLine k (headOf heads k)
 abbrev pub SameState : Head → Head → Type 0
 SameState h k = (h .phase ≡ k .phase) × (h .value ≡ k .value) × (h .status ≡ k .status) × (h .decision ≡ k .decision)
 
--- "Last line: rounds run, good rounds, heads whose status is decided."
+-- "Last line: rounds run, good rounds," and by W2 "heads whose decision is written"
 unfoldable pub lastLine : Outcome → List ℕ
 lastLine o = figure "rounds " (o .rounds) ++ figure " good " (o .good) ++ figure " decided " (o .decided) ++ word "\n"
 

@@ -1,5 +1,5 @@
--- What a survey shows: the ballots of the heads, and how many are decided; and so a round of the code is a round of document
--- 01.
+-- What a survey shows: the ballots of the heads, and how many have a written decision; and so a round of the code is a
+-- round of document 01.
 use Prim.Native.Nat.{ℕ, zero, suc, _+_, _*_, _≤_, _<_}
 use mathlib.Core.Path.{_≡_, refl, sym, ap, ap₂, _∙_}
 use mathlib.Core.List.{List, [], _++_}
@@ -7,15 +7,15 @@ use mathlib.Core.Bool.{Bool, cond}
 use native.Mathlib.Decide.{ℕ-discrete}
 use native.Mathlib.Omega.{arith}
 use lib.ListN.{length, getD, set, take, length-replicate}
-use lib.Dec.{eqb}
+use lib.Dec.{ltb}
 use lib.Seq.{getD-set-other, take-add, sets, length-sets}
-use Rattle.rules.specs.declared.Status.{Status}
-use Rattle.rules.specs.declared.Status.the-variants.{Undecided, Decided}
+use Rattle.rules.specs.declared.Decision.{Decision}
+use Rattle.rules.specs.declared.Decision.the-variants.{Zero, One, Unwritten}
 use Rattle.rules.specs.declared.Head.{Head}
 use Rattle.rules.specs.Below.{count}
-use Rattle.rules.specs.Ballot.{statusCode, bytesOf, fiveAt}
+use Rattle.rules.specs.Ballot.{bytesOf, fiveAt}
 use Rattle.rules.specs.Heard.{member}
-use Rattle.rules.specs.Head.{zeroHead, isDecided, ballotOf}
+use Rattle.rules.specs.Head.{zeroHead, decisionCode, isWritten, ballotOf}
 use Rattle.rules.specs.Tick.{tickOf}
 use Rattle.rules.specs.Record.{fourBytesAt}
 use Rattle.rules.proofs.Counting.Below.{count-le}
@@ -23,26 +23,27 @@ use Rattle.rules.proofs.Counting.Sets.{member-none}
 use Rattle.file.specs.Table.{headOf, placed, tickedIn, roundIn}
 use Rattle.file.specs.Figures.{decidedIn}
 use Rattle.run.specs.declared.heads.Survey.{Survey}
-use Rattle.run.specs.Survey.{noted, surveyOf, receivedFrom, tickedBy, tickedAll}
+use Rattle.run.specs.Survey.{oneIfWritten, noted, surveyOf, receivedFrom, tickedBy, tickedAll}
 use Rattle.run.proofs.Parts.{sets-before, sets-at}
 use Rattle.rules.specs.Round.{received}
 
--- ---- how many are decided
+-- ---- how many have a written decision
 
-status-counts : (h : Head) → statusCode (h .status) ≡ cond (isDecided h) 1 0
-status-counts h = go (h .status)
+decision-counts : (h : Head) → oneIfWritten (h .decision) ≡ cond (isWritten h) 1 0
+decision-counts h = go (h .decision)
   where
-    go : (s : Status) → statusCode s ≡ cond (eqb (statusCode s) 1) 1 0
-    go Undecided = refl
-    go Decided = refl
+    go : (d : Decision) → oneIfWritten d ≡ cond (ltb (decisionCode d) 2) 1 0
+    go Zero = refl
+    go One = refl
+    go Unwritten = refl
 
 pub survey-counts : (n : ℕ) (table : List Head) → surveyOf n table .decided ≡ decidedIn table n
 unfolding surveyOf noted count
 survey-counts zero table = refl
-survey-counts (suc k) table = ap₂ (λ (a b : ℕ). a + b) (survey-counts k table) (status-counts (headOf table k))
+survey-counts (suc k) table = ap₂ (λ (a b : ℕ). a + b) (survey-counts k table) (decision-counts (headOf table k))
 
 pub survey-decided : (k : ℕ) (table : List Head) → surveyOf k table .decided ≤ k
-survey-decided k table = omega (arith, survey-counts k table, count-le k (λ s. isDecided (headOf table s)))
+survey-decided k table = omega (arith, survey-counts k table, count-le k (λ s. isWritten (headOf table s)))
 
 -- ---- the ballots
 

@@ -1,4 +1,4 @@
--- The answer with its figures, as the bench makes it when the decided heads are counted.
+-- The answer with its figures, as the bench makes it when the written decisions are counted.
 use Prim.Native.Nat.{ℕ}
 use mathlib.Core.List.{List}
 use Rattle.file.specs.declared.Plan.{Plan}

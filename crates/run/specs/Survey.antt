@@ -5,9 +5,11 @@ use mathlib.Core.List.{List, [], _++_}
 use mathlib.Core.Bool.{cond}
 use lib.ListN.{getD, set, replicate}
 use lib.Seq.{sets}
+use Rattle.rules.specs.declared.Decision.{Decision}
+use Rattle.rules.specs.declared.Decision.the-variants.{Zero, One, Unwritten}
 use Rattle.rules.specs.declared.Head.{Head}
 use Rattle.rules.specs.Sizes.{headsMost, ballotBytes}
-use Rattle.rules.specs.Ballot.{statusCode, bytesOf, fiveAt}
+use Rattle.rules.specs.Ballot.{bytesOf, fiveAt}
 use Rattle.rules.specs.Heard.{member}
 use Rattle.rules.specs.Head.{ballotOf}
 use Rattle.rules.specs.Tick.{tickOf}
@@ -19,10 +21,16 @@ use Rattle.run.specs.declared.heads.Survey.{Survey}
 abbrev pub noSurvey : Survey
 noSurvey = record { ballots = replicate (headsMost * ballotBytes) 0; decided = 0 }
 
+-- what a head adds to the last figure, by W2 the count of those "whose decision is written"
+abbrev pub oneIfWritten : Decision → ℕ
+oneIfWritten Zero = 1
+oneIfWritten One = 1
+oneIfWritten Unwritten = 0
+
 -- a survey with head i in it
 unfoldable pub noted : Survey → ℕ → Head → Survey
 noted before i h =
-    record { ballots = sets (before .ballots) (i * ballotBytes) (bytesOf (ballotOf h)); decided = before .decided + statusCode (h .status) }
+    record { ballots = sets (before .ballots) (i * ballotBytes) (bytesOf (ballotOf h)); decided = before .decided + oneIfWritten (h .decision) }
 
 -- of the first k heads of a table
 unfoldable pub surveyOf : ℕ → List Head → Survey

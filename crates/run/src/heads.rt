@@ -8,7 +8,7 @@ ghost use lib.Dec.{eqb};
 ghost use Rattle.rules.specs.Sizes.{headsMost, ballotBytes};
 ghost use Rattle.rules.specs.Heard.{member as memberOf, setOf};
 ghost use Rattle.file.specs.Table.{startIn};
-ghost use Rattle.run.specs.Survey.{noSurvey, noted, receivedFrom, tickedBy};
+ghost use Rattle.run.specs.Survey.{noSurvey, oneIfWritten, noted, receivedFrom, tickedBy};
 use crate::places::byte_at;
 use crate::places::part;
 use crate::sections::COUNT_BYTES;
@@ -18,17 +18,17 @@ use codes::HEADS_MOST;
 use codes::SET_BYTES;
 use codes::ballot_bytes;
 use codes::lowest;
-use codes::status_code;
 use engine::own_ballot;
 use engine::start;
 use engine::tick;
+use rules::Decision;
 use rules::Head;
 
 // The ballots of as many heads as there can be.
 const ROUND_BYTES: usize = HEADS_MOST as usize * BALLOT_BYTES;
 
 // What the heads show before a round: their ballots, five bytes each in sender order, and how many of
-// them are decided.
+// them have a written decision.
 pub struct Survey {
     pub ballots: [u8; ROUND_BYTES],
     pub decided: usize,
@@ -61,13 +61,25 @@ pub(crate) fn note(before: Survey, i: usize, head: Head) -> Survey
     requires { ⌜ before .decided ≤ i ⌝ }
     ensures { λ r. ⌜ r ≡ noted before i head ⌝ }
 {
-    let status = head.status;
+    let decision = head.decision;
     let five = ballot_bytes(own_ballot(head));
     let mut ballots = before.ballots;
     write_ballot(&mut ballots, i * BALLOT_BYTES, &five);
     Survey {
         ballots: ballots,
-        decided: before.decided + status_code(status) as usize,
+        decided: before.decided + one_if_written(decision),
+    }
+}
+
+// W2: "The last figure counts heads whose decision is written."
+fn one_if_written(decision: Decision) -> usize
+    ensures { λ r. ⌜ r ≡ oneIfWritten decision ⌝ }
+    ensures { λ r. ⌜ r ≤ 1 ⌝ }
+{
+    match decision {
+        Decision::Zero => 1,
+        Decision::One => 1,
+        Decision::Unwritten => 0,
     }
 }
 

@@ -97,7 +97,7 @@ fn round(table: &mut [Head], n: usize, rows: &[u8], coins: &[u8])
     }
 }
 
-// What the first n heads show: their ballots, and how many are decided.
+// What the first n heads show: their ballots, and how many have a written decision.
 fn survey(table: &[Head], n: usize) -> Survey
     requires { ⌜ n ≤ length (now table) ⌝ }
     requires { ⌜ n ≤ headsMost ⌝ }

@@ -10,7 +10,7 @@ use lib.ListN.{length, getD}
 use lib.Dec.{leb}
 use borrow.Author.Tests.{eq-eqb, ne-eqb}
 use Rattle.rules.specs.declared.Head.{Head}
-use Rattle.rules.specs.Head.{isDecided, ballotOf}
+use Rattle.rules.specs.Head.{ballotOf}
 use Rattle.rules.specs.Run.{headIn}
 use Rattle.rules.proofs.Counting.Below.{count-le}
 use Rattle.rules.proofs.Rounds.Rounds.{sent-now}
@@ -74,7 +74,7 @@ module _ (file : List ℕ) (short : length file < 2 ^ 64) where
         count-le (plan .rounds) (λ r. leb (lostIn (rowsIn file plan r) (plan .n)) (boundOf (plan .n) (plan .needed)))
 
     decided-small : decidedIn (tableAfter file emptyTable) (plan .n) ≤ plan .n
-    decided-small = count-le (plan .n) (λ s. isDecided (headOf (tableAfter file emptyTable) s))
+    decided-small = count-le (plan .n) _
 
     accepted-small : PrintableOutcome outcome
     unfolding outcomeOf

@@ -61,7 +61,7 @@ first-apart o p more less a b e =
     let z = number-apart 10 (o .bound) (p .bound) newline (a .bound) (b .bound) (ap (drop 6) (y .1)) in
     (x .0, y .0, z .0, z .1)
 
--- "Last line: rounds run, good rounds, heads whose status is decided."
+-- "Last line: rounds run, good rounds," and by W2 "heads whose decision is written"
 pub last-apart : (o p : Outcome) → PrintableOutcome o → PrintableOutcome p → lastLine o ≡ lastLine p
     → (o .rounds ≡ p .rounds) × (o .good ≡ p .good) × (o .decided ≡ p .decided)
 unfolding lastLine

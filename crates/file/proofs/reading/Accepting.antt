@@ -8,6 +8,7 @@ use native.Mathlib.Omega.{arith}
 use lib.ListN.{length}
 use Rattle.rules.specs.declared.Head.{Head}
 use Rattle.file.specs.declared.Plan.{Plan}
+use Rattle.file.specs.declared.Outcome.{Outcome}
 use Rattle.file.specs.Rules.{KeepsEveryRule}
 use Rattle.file.specs.Refusal.{fileRefusals}
 use Rattle.file.specs.Plan.{planFor}
@@ -19,7 +20,7 @@ use Rattle.file.proofs.reading.Plans.{accepted-exactly}
 use Rattle.file.proofs.reading.Plans.{no-line-applies}
 use Rattle.file.proofs.reading.NeverSixteen.{never-sixteen}
 use Rattle.file.proofs.reading.LargestFile.{padded, padded-length, largest-keeps}
-use Rattle.file.proofs.reading.FirstBytes.{refused-table}
+use Rattle.file.proofs.reading.FirstBytes.{refused-outcome, refused-table}
 use Rattle.rules.specs.Given.{Given}
 
 same-number : (file : List ℕ) (table : List Head) → outcomeOf file table .number ≡ planFor file table .number
@@ -79,3 +80,9 @@ pub refused-changes-nothing : (file : List ℕ) (table : List Head) → (Accepts
 refused-changes-nothing file table not-zero =
     let R = refused file table not-zero in
     refused-table file table (R .number) (R .place) (R .is)
+
+pub refused-counts-nobody : (file : List ℕ) (table : List Head) → (Accepts file table → ⊥)
+    → outcomeOf file table .decided ≡ 0
+refused-counts-nobody file table not-zero =
+    let R = refused file table not-zero in
+    ap (λ (o : Outcome). o .decided) (refused-outcome file table (R .number) (R .place) (R .is))

@@ -1,19 +1,23 @@
 -- The table after an accepted file: its heads are those of the vote, and so is what demand 3 says of them.
 use Prim.Native.Nat.{ℕ, _+_, _*_, _≤_, _<_}
-use mathlib.Core.Path.{_≡_, sym, ap, _∙_}
+use mathlib.Core.Path.{_≡_, refl, sym, ap, _∙_}
 use mathlib.Core.List.{List}
+use mathlib.Core.Bool.{Bool, true}
+use mathlib.Core.Logic.{_↔_}
 use native.Mathlib.Omega.{arith}
 use lib.ListN.{length, getD}
 use lib.Dec.{leb, eqb}
+use Rattle.rules.specs.declared.Status.the-variants.{Decided}
 use Rattle.rules.specs.declared.Head.{Head}
 use Rattle.rules.specs.Below.{count}
 use Rattle.rules.specs.Ballot.{valueOf}
-use Rattle.rules.specs.Head.{decisionFor}
+use Rattle.rules.specs.Head.{decisionFor, isWritten}
 use Rattle.rules.specs.Tick.{tickNumber}
 use Rattle.rules.specs.Record.{fourBytesAt}
 use Rattle.rules.specs.Given.{WrittenDecision}
 use Rattle.rules.specs.Run.{headIn, Run}
-use Rattle.rules.proofs.Demands.{no-two-decisions-differ, each-was-proposed}
+use Rattle.rules.proofs.Demands.{no-two-decisions-differ, each-was-proposed, heads-stay-sound}
+use Rattle.rules.proofs.Meaning.Meanings.{means-written}
 use Rattle.file.specs.declared.Plan.{Plan}
 use Rattle.file.specs.Plan.{planFor}
 use Rattle.file.specs.Table.{headOf, startsIn, rowsIn, coinsIn, roundsIn, tableAfter}
@@ -94,3 +98,16 @@ module _ (file : List ℕ) (table : List Head) (accepts : Accepts file table) wh
       (boundOf (plan .n) (plan .needed)))
   unfolding outcomeOf
   good-counts = good-is file plan (length table) keeps
+
+  pub decided-counts : (written : ℕ → Bool)
+      × ((s : ℕ) → s < plan .n → (written s ≡ true) ↔ WrittenDecision (headOf (tableAfter file table) s))
+      × (outcomeOf file table .decided ≡ count (plan .n) written)
+  unfolding outcomeOf
+  decided-counts =
+      (λ s. isWritten (headOf (tableAfter file table) s), λ s h. means-written (headOf (tableAfter file table) s), refl)
+
+  pub decided-wrote : (s : ℕ) → s < plan .n → headOf (tableAfter file table) s .status ≡ Decided
+      → WrittenDecision (headOf (tableAfter file table) s)
+  decided-wrote s h decided =
+      let a = table-heads s h in
+      rw a (heads-stay-sound (voteFor file table) (eventsFor file table) table-run s h .decided (rw a at decided) .1)

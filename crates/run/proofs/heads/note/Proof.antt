@@ -8,15 +8,15 @@ use borrow.Author.Needs.{needs}
 use Rattle.rules.specs.declared.Ballot.{Ballot}
 use Rattle.rules.specs.declared.Head.{Head}
 use Rattle.rules.specs.Sizes.{ballotBytes}
-use Rattle.rules.specs.Ballot.{bytesOf, statusCode}
+use Rattle.rules.specs.Ballot.{bytesOf}
 use Rattle.rules.specs.Head.{ballotOf}
 use Rattle.run.specs.declared.heads.Survey.{Survey}
-use Rattle.run.specs.Survey.{noted}
+use Rattle.run.specs.Survey.{oneIfWritten, noted}
 use Rattle.run.proofs.heads.note.Statement.{statement}
 use Rattle.run.proofs.heads.note.Tie as tie
 
 noted-is : (before : Survey) (i : ℕ) (h : Head) (b : Ballot) (five ballots : List ℕ) (more : ℕ) → b ≡ ballotOf h → five ≡ bytesOf b
-    → ballots ≡ sets (before .ballots) (i * ballotBytes) five → more ≡ statusCode (h .status)
+    → ballots ≡ sets (before .ballots) (i * ballotBytes) five → more ≡ oneIfWritten (h .decision)
     → _≡_ {A = Survey} (record { ballots = ballots; decided = before .decided + more }) (noted before i h)
 unfolding noted
 noted-is before i h b five ballots more own bytes stored m = rw (stored, bytes, own, m) refl
@@ -41,17 +41,14 @@ write-ballot-requires c κs = let long : 160 ≡ length (c .before .before .befo
     let five : 5 ≡ length (c .before .before .before .ballot-bytes .result) = slice-aggregate-write-ballot-2 c in
     (omega (arith, long, c .before .before .before .before .before .pre .0), omega (arith, five))
 
-status-code-requires : tie.Need-status-code-requires
-status-code-requires c κs = search needs
+one-if-written-requires : tie.Need-one-if-written-requires
+one-if-written-requires c κs = search needs
 
-cast-t12 : tie.Need-cast-t12
-cast-t12 c = search needs
-
-add-t17 : tie.Need-add-t17
-add-t17 c = search needs
+add-t16 : tie.Need-add-t16
+add-t16 c = search needs
 
 returns : tie.Need-returns
-returns c = noted-is _ _ _ _ _ _ _ (c .before .before .before .before .before .before .before .before .own-ballot .ensures) (c .before .before .before .before .before .before .before .ballot-bytes .ensures) (c .before .before .before .write-ballot .ensures) (c .before .status-code .ensures)
+returns c = noted-is _ _ _ _ _ _ _ (c .before .before .before .before .before .before .before .before .own-ballot .ensures) (c .before .before .before .before .before .before .before .ballot-bytes .ensures) (c .before .before .before .write-ballot .ensures) (c .before .one-if-written .ensures .0)
 
 pub note-spec : {M : Type 1} → statement M
 note-spec =
@@ -63,7 +60,6 @@ note-spec =
     mul-write-ballot
     slice-aggregate-write-ballot-2
     write-ballot-requires
-    status-code-requires
-    cast-t12
-    add-t17
+    one-if-written-requires
+    add-t16
     returns)

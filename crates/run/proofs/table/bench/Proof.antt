@@ -99,7 +99,7 @@ shownTy = tyRef erased imm (pointee (R .written))
 abbrev tableTy : Ty
 tableTy = sliceTy (tyRef (named 1) mut (pointee (R .written)))
 
--- that a survey counts the decided heads
+-- that a survey counts the written decisions
 abbrev Counts : Type 0
 Counts = (n : ℕ) (table : List Head) → surveyOf n table .decided ≡ decidedIn table n
 
