@@ -118,8 +118,8 @@ pub ten-rounds-print : reportOf ten-rounds ≡
 unfolding reporting
 ten-rounds-print = refl
 
--- Two heads in a lent table of four: the third could be ticked with their ballots, and the fourth has a decision. "after
--- a run the first n are the heads and the others are untouched", nor are they counted.
+-- Two heads in a lent table of four: the third could be ticked with their ballots, and the fourth has written 1.
+-- "after a run the first n are the heads and the others are untouched", nor are they counted.
 abbrev pub two-heads : List ℕ
 two-heads = (0 ∷ 2 ∷ 0 ∷ 1 ∷ []) ++ (0 ∷ 1 ∷ 2 ∷ []) ++ (0 ∷ 1 ∷ []) ++ rows (0 ∷ 0 ∷ []) ++ (0 ∷ 2 ∷ 0 ∷ 0 ∷ [])
 

@@ -28,10 +28,12 @@ use Rattle.file.specs.Benched.{emptyTable, benchedOf}
 use Rattle.file.specs.Report.{reportOf, SameState}
 use Rattle.file.specs.PrintedCase.{printedCase, printed}
 use Rattle.file.proofs.reading.Accepting.{refused-by-first, accepted-exactly-when, refused-by-12-to-16, never-16}
-use Rattle.file.proofs.reading.Accepting.{at-most-41001, largest-accepted, refused-changes-nothing, refused-counts-nobody}
+use Rattle.file.proofs.reading.Accepting.{at-most-41001, largest-accepted, refused-changes-nothing}
+use Rattle.file.proofs.reading.Accepting.{refused-counts-nobody}
 use Rattle.file.proofs.running.Placing.{after-length, after-drop}
 use Rattle.file.proofs.running.TheTable.{table-run, table-heads, table-ticks, table-agrees, table-proposed}
-use Rattle.file.proofs.running.TheTable.{table-decides, figure-counts, good-counts, decided-counts, decided-wrote}
+use Rattle.file.proofs.running.TheTable.{table-decides, figure-counts, good-counts}
+use Rattle.file.proofs.running.TheTable.{decided-counts, decided-wrote}
 use Rattle.file.proofs.reading.FirstBytes.{the-first-bytes-decide}
 use Rattle.file.proofs.printing.EqualReports.{equal-reports}
 use Rattle.file.proofs.PrintedCase.{it-prints}
