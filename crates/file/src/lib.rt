@@ -21,7 +21,8 @@ pub struct Plan {
     pub coins: usize,
 }
 
-// What the bench answers: the figures that the report prints beside the heads; 0 is accepted.
+// What the bench answers: the figures that the report prints beside the heads; 0 is accepted. By W2
+// `decided` counts the heads whose decision is written.
 pub struct Outcome {
     pub number: u8,
     pub place: usize,
