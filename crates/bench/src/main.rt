@@ -1,6 +1,8 @@
 // The program: standard input, the proved report of it, standard output. Nothing is decided here but
 // what is said where one of the two fails: then a line on standard error, and no report of bytes that
 // were not read.
+#![tactic(auto)]
+
 ghost use Rattle.io.specs.Counts.{IsPrefixLen};
 
 use libc::{STDIN_FILENO, STDOUT_FILENO};

@@ -3,6 +3,8 @@
 //
 // A line is a letter and hex digits; `answer` and `entry` say which call a letter stands for and
 // what its bytes are. A line that begins with '#' is a comment.
+#![tactic(auto)]
+
 mod answer;
 mod entry;
 mod hex;

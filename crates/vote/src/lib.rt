@@ -1,5 +1,7 @@
 // The entries for C, on records of 20 bytes, around the engine by value. Nothing else of the library
 // is exported.
+#![tactic(auto)]
+
 ghost use Rattle.std.specs.Prelude.{◌≡◌, length, replicate};
 ghost use Rattle.rules.specs.Sizes.{record_bytes};
 ghost use Rattle.rules.specs.Record.{record_of, start_number_from_c, record_after_start};
