@@ -1,6 +1,5 @@
 use Rattle.rules.specs.Ballot.{breaks_rule}
 use native.Mathlib.Nat.{add-zero}
-use borrow.Author.Rules.{rules}
 use Rattle.engine.proofs.ballot.breaks_rule.Goals as goal
 
 pub returns : goal.returns

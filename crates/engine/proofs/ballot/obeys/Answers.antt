@@ -1,5 +1,4 @@
 use Rattle.rules.specs.Ballot.{obeys}
-use borrow.Author.Rules.{rules}
 use Rattle.engine.proofs.ballot.obeys.Goals as goal
 
 pub returns : goal.returns

@@ -1,4 +1,3 @@
-use borrow.Author.Rules.{rules}
 use Rattle.rules.specs.Head.{decision_fits}
 use Rattle.engine.proofs.head.decision_fits.Goals as goal
 

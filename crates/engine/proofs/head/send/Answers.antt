@@ -1,5 +1,4 @@
 use Rattle.rules.specs.Head.{send_of}
-use borrow.Author.Rules.{rules}
 use Rattle.engine.proofs.head.send.Goals as goal
 
 pub returns-then-sound : goal.returns-then-sound

@@ -1,5 +1,4 @@
 use Rattle.rules.specs.Head.{sets_fit}
-use borrow.Author.Rules.{rules}
 use Rattle.engine.proofs.head.sets_fit.Goals as goal
 
 pub returns : goal.returns

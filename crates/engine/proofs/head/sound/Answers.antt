@@ -1,6 +1,5 @@
 use Rattle.rules.specs.Head.{sound}
 use borrow.Author.Tests.{lt-ltb, le-ltb}
-use borrow.Author.Rules.{rules}
 use Rattle.engine.proofs.head.sound.Goals as goal
 
 pub returns-then-not_heads : goal.returns-then-not_heads

@@ -1,5 +1,4 @@
 use Rattle.rules.specs.Head.{stands_under}
-use borrow.Author.Rules.{rules}
 use Rattle.engine.proofs.head.stands_under.Goals as goal
 
 pub returns : goal.returns

@@ -5,7 +5,6 @@ use Rattle.rules.proofs.Meaning.Meanings.{heads}
 use Rattle.rules.proofs.Counting.Truth.{or_left_false, or_right_false}
 use mathlib.Core.Path.{sym, ◌∙◌}
 use lib.Dec.{ltb}
-use borrow.Author.Rules.{rules}
 use native.Mathlib.Omega.{arith}
 use Rattle.engine.proofs.head.start.Goals as goal
 

@@ -1,8 +1,5 @@
-use Prim.Native.Nat.{◌-◌, ◌≤◌}
 use mathlib.Core.Path.{sym, ◌∙◌}
-use Rattle.rules.proofs.Counting.Below.{NoneBefore, none_more, search_finds, search_ends}
-use Rattle.rules.specs.Ballot.{breaks_rule}
-use native.Mathlib.Omega.{arith}
+use Rattle.rules.proofs.Counting.Below.{search_finds, search_ends}
 use Rattle.engine.proofs.list.first_breaking.Goals as goal
 
 pub returns-then-breaks_rule : goal.returns-then-breaks_rule

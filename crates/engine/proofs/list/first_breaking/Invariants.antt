@@ -1,8 +1,6 @@
 use Prim.Native.Nat.{◌-◌, ◌≤◌}
-use mathlib.Core.Path.{sym, ◌∙◌}
-use Rattle.rules.proofs.Counting.Below.{NoneBefore, none_more, search_finds, search_ends}
+use Rattle.rules.proofs.Counting.Below.{NoneBefore}
 use Rattle.rules.specs.Ballot.{breaks_rule}
-use native.Mathlib.Omega.{arith}
 use Rattle.engine.proofs.list.first_breaking.Given as goal
 
 abbrev pub invariant-loop-i : goal.invariant-loop-i

@@ -1,8 +1,5 @@
-use Prim.Native.Nat.{◌-◌, ◌≤◌}
 use mathlib.Core.Path.{sym, ◌∙◌}
-use native.Mathlib.Omega.{arith}
-use Rattle.rules.proofs.Counting.Below.{NoneBefore, none_more, search_starts, search_finds, search_ends}
-use Rattle.engine.specs.Look.{is_of}
+use Rattle.rules.proofs.Counting.Below.{search_finds, search_ends}
 use Rattle.engine.proofs.list.first_of.Goals as goal
 
 pub returns-then-is_of : goal.returns-then-is_of

@@ -1,7 +1,5 @@
 use Prim.Native.Nat.{◌-◌, ◌≤◌}
-use mathlib.Core.Path.{sym, ◌∙◌}
-use native.Mathlib.Omega.{arith}
-use Rattle.rules.proofs.Counting.Below.{NoneBefore, none_more, search_starts, search_finds, search_ends}
+use Rattle.rules.proofs.Counting.Below.{NoneBefore}
 use Rattle.engine.specs.Look.{is_of}
 use Rattle.engine.proofs.list.first_of.Given as goal
 

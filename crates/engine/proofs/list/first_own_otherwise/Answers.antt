@@ -1,9 +1,5 @@
-use Prim.Native.Nat.{◌-◌, ◌≤◌}
 use mathlib.Core.Path.{sym, ◌∙◌}
-use native.Mathlib.Omega.{arith}
-use Rattle.rules.specs.Ballot.{ballot_at}
-use Rattle.rules.specs.Tick.{own_otherwise}
-use Rattle.rules.proofs.Counting.Below.{NoneBefore, none_more, search_finds, search_ends}
+use Rattle.rules.proofs.Counting.Below.{search_finds, search_ends}
 use Rattle.engine.proofs.list.first_own_otherwise.Goals as goal
 
 pub returns-then-is_own_otherwise : goal.returns-then-is_own_otherwise

@@ -1,9 +1,7 @@
 use Prim.Native.Nat.{◌-◌, ◌≤◌}
-use mathlib.Core.Path.{sym, ◌∙◌}
-use native.Mathlib.Omega.{arith}
 use Rattle.rules.specs.Ballot.{ballot_at}
 use Rattle.rules.specs.Tick.{own_otherwise}
-use Rattle.rules.proofs.Counting.Below.{NoneBefore, none_more, search_finds, search_ends}
+use Rattle.rules.proofs.Counting.Below.{NoneBefore}
 use Rattle.engine.proofs.list.first_own_otherwise.Given as goal
 
 abbrev pub invariant-loop-i : goal.invariant-loop-i

@@ -1,5 +1,4 @@
 use Rattle.rules.specs.Tick.{held_otherwise}
-use borrow.Author.Rules.{rules}
 use Rattle.engine.proofs.list.held_otherwise.Goals as goal
 
 pub returns : goal.returns

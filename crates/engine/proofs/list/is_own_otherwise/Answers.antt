@@ -1,8 +1,5 @@
-use mathlib.Core.Path.{ap, ◌∙◌}
 use borrow.Author.Tests.{ne_eqb}
 use Rattle.rules.specs.Tick.{own_otherwise}
-use Rattle.codes.proofs.Held.{ballot_there}
-use borrow.Author.Rules.{rules}
 use Rattle.engine.proofs.list.is_own_otherwise.Goals as goal
 
 pub returns-then-sender_at-head : goal.returns-then-sender_at-head

@@ -1,7 +1,5 @@
 use native.Mathlib.Omega.{arith}
-use Rattle.codes.proofs.Held.{ballot_there}
 use Rattle.engine.proofs.Refusing.{late_otherwise}
-use borrow.Author.Rules.{rules}
 use Rattle.engine.proofs.list.otherwise.Goals as goal
 
 pub returns-then-phase_at-head : goal.returns-then-phase_at-head

@@ -1,5 +1,4 @@
 use Rattle.rules.specs.Tick.{own_otherwise}
-use borrow.Author.Rules.{rules}
 use Rattle.engine.proofs.list.own_otherwise.Goals as goal
 
 pub returns : goal.returns

@@ -1,5 +1,4 @@
 use Rattle.rules.specs.Tick.{same_state}
-use borrow.Author.Rules.{rules}
 use Rattle.engine.proofs.list.same_state.Goals as goal
 
 pub returns : goal.returns

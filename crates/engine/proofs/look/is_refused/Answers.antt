@@ -1,9 +1,7 @@
 use mathlib.Core.Path.{sym, ap, ◌∙◌}
 use mathlib.Core.Bool.{Bool, ◌&&◌, not}
-use borrow.Author.Tests.{not-true, not-false}
 use Rattle.rules.specs.Heard.{member}
 use Rattle.rules.proofs.Counting.Sets.{member_or}
-use borrow.Author.Rules.{rules}
 use Rattle.engine.proofs.look.is_refused.Goals as goal
 
 pub returns-then-not-has : goal.returns-then-not-has

@@ -6,9 +6,7 @@ use mathlib.Core.Bool.{Bool, ◌||◌, not}
 use Prim.Native.Nat.{ℕ}
 use native.Mathlib.Omega.{arith}
 use lib.Dec.{eqb}
-use borrow.Author.Tests.{not-true}
 use Rattle.engine.proofs.Refusing.{otherwise, low_sender, not_earlier, found_low, refused_breaks, refused_late, refused_parts}
-use borrow.Author.Rules.{rules}
 use Rattle.engine.proofs.look.is_refused_late.Goals as goal
 
 pub returns-then-breaks_rule : goal.returns-then-breaks_rule

@@ -4,12 +4,10 @@ use mathlib.Core.List.{[], ◌∷◌}
 use mathlib.Core.Bool.{cond}
 use native.Mathlib.Omega.{arith}
 use lib.Dec.{eqb}
-use Rattle.rules.specs.Tick.{ballots}
 use Rattle.rules.proofs.Counting.Below.{none_more}
 use Rattle.engine.specs.Look.{alone}
 use Rattle.engine.proofs.Refusing.{stands_clean, clean_low, code_read, refused_ahead}
 use Rattle.engine.proofs.Looking.{said_of, sees, sees_ahead, goes_on}
-use borrow.Author.Rules.{rules}
 use Rattle.engine.proofs.look.with_ahead.Goals as goal
 
 pub returns-then-is_refused_ahead : goal.returns-then-is_refused_ahead

@@ -1,11 +1,10 @@
-use Prim.Native.Nat.{◌-◌, ◌≤◌, ◌<◌}
+use Prim.Native.Nat.{◌<◌}
 use mathlib.Core.Path.{sym, ap, ◌∙◌}
 use native.Mathlib.Omega.{arith}
-use Rattle.rules.specs.Tick.{ballots}
-use Rattle.rules.proofs.Counting.Below.{NoneBefore, none_more}
-use Rattle.engine.specs.Look.{refused, alone}
+use Rattle.rules.proofs.Counting.Below.{none_more}
+use Rattle.engine.specs.Look.{alone}
 use Rattle.engine.proofs.Refusing.{clean_low}
-use Rattle.engine.proofs.Looking.{Sees, said_of, sees, late_known, sees_late, goes_on}
+use Rattle.engine.proofs.Looking.{said_of, sees, late_known, sees_late, goes_on}
 use Rattle.engine.proofs.look.with_late.Goals as goal
 
 pub loop-i-init : goal.loop-i-init

@@ -1,11 +1,7 @@
-use Prim.Native.Nat.{◌-◌, ◌≤◌, ◌<◌}
-use mathlib.Core.Path.{sym, ap, ◌∙◌}
-use native.Mathlib.Omega.{arith}
-use Rattle.rules.specs.Tick.{ballots}
-use Rattle.rules.proofs.Counting.Below.{NoneBefore, none_more}
-use Rattle.engine.specs.Look.{refused, alone}
-use Rattle.engine.proofs.Refusing.{clean_low}
-use Rattle.engine.proofs.Looking.{Sees, said_of, sees, late_known, sees_late, goes_on}
+use Prim.Native.Nat.{◌-◌, ◌≤◌}
+use Rattle.rules.proofs.Counting.Below.{NoneBefore}
+use Rattle.engine.specs.Look.{refused}
+use Rattle.engine.proofs.Looking.{Sees, said_of}
 use Rattle.engine.proofs.look.with_late.Given as goal
 
 abbrev pub invariant-loop-i : goal.invariant-loop-i

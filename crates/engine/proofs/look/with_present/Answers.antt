@@ -1,13 +1,12 @@
-use Prim.Native.Nat.{◌-◌, ◌≤◌, ◌<◌}
+use Prim.Native.Nat.{◌<◌}
 use mathlib.Core.Bool.{not}
 use mathlib.Core.Path.{◌≡◌, refl, sym, ap, ◌∙◌}
 use native.Mathlib.Omega.{arith}
-use lib.ListN.{length, length-set}
-use Rattle.rules.specs.Tick.{ballots}
-use Rattle.rules.proofs.Counting.Below.{NoneBefore, none_more}
-use Rattle.engine.specs.Look.{refused, alone, codes_of, statuses_of}
+use lib.ListN.{length-set}
+use Rattle.rules.proofs.Counting.Below.{none_more}
+use Rattle.engine.specs.Look.{alone, codes_of, statuses_of}
 use Rattle.engine.proofs.Refusing.{low_sender, low_code, code_read, test_passed, test_failed, refused_present}
-use Rattle.engine.proofs.Looking.{Sees, sees, phase_least, sees_present, goes_on}
+use Rattle.engine.proofs.Looking.{sees, phase_least, sees_present, goes_on}
 use Rattle.engine.proofs.look.with_present.Goals as goal
 
 pub loop-i-init : goal.loop-i-init

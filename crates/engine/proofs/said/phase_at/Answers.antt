@@ -1,5 +1,4 @@
 use Rattle.rules.specs.Ballot.{ballot_at}
-use borrow.Author.Rules.{rules}
 use Rattle.engine.proofs.said.phase_at.Goals as goal
 
 pub returns : goal.returns

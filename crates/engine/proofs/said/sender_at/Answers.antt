@@ -1,6 +1,5 @@
 use Rattle.rules.specs.Ballot.{ballot_at}
 use native.Mathlib.Nat.{add-zero}
-use borrow.Author.Rules.{rules}
 use Rattle.engine.proofs.said.sender_at.Goals as goal
 
 pub returns : goal.returns

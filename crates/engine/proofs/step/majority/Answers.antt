@@ -1,7 +1,5 @@
 use Rattle.rules.specs.Tick.{majority}
 use Rattle.rules.proofs.Counting.Sets.{size_le}
-use Rattle.rules.specs.Heard.{heard}
-use borrow.Author.Rules.{rules}
 use native.Mathlib.Omega.{arith}
 use Rattle.engine.proofs.step.majority.Goals as goal
 

@@ -1,6 +1,5 @@
 use Rattle.rules.specs.Tick.{quorum}
 use Rattle.rules.proofs.Counting.Sets.{size_le}
-use borrow.Author.Rules.{rules}
 use native.Mathlib.Omega.{arith}
 use Rattle.engine.proofs.step.quorum.Goals as goal
 

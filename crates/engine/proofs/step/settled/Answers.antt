@@ -1,5 +1,4 @@
 use Rattle.rules.specs.Tick.{settled}
-use borrow.Author.Rules.{rules}
 use Rattle.engine.proofs.step.settled.Goals as goal
 
 pub returns : goal.returns

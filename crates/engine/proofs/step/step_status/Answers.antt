@@ -1,5 +1,4 @@
 use Rattle.rules.specs.Tick.{step_status}
-use borrow.Author.Rules.{rules}
 use Rattle.engine.proofs.step.step_status.Goals as goal
 
 pub returns-then-head-majority : goal.returns-then-head-majority

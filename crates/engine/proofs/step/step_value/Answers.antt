@@ -1,7 +1,6 @@
 use Rattle.rules.specs.Tick.{step_value}
 use Rattle.rules.specs.Choice.{bit_with}
 use borrow.Author.Tests.{eq-eqb, ne_eqb}
-use borrow.Author.Rules.{rules}
 use Rattle.engine.proofs.step.step_value.Goals as goal
 
 pub returns-then-head-eq1 : goal.returns-then-head-eq1

@@ -1,4 +1,3 @@
-use borrow.Author.Rules.{rules}
 use Rattle.rules.specs.Tick.{decides_otherwise}
 use Rattle.engine.proofs.ticks.decides_otherwise.Goals as goal
 

@@ -1,6 +1,4 @@
 use mathlib.Core.Path.{sym, ◌∙◌}
-use borrow.Author.Tests.{not-true, not-false}
-use borrow.Author.Rules.{rules}
 use Rattle.engine.proofs.Listening.{ends_9, ends_10, ends, not_stepped, last_phase, has_stepped}
 use Rattle.engine.proofs.ticks.ended.Goals as goal
 

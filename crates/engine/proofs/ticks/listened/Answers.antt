@@ -1,6 +1,5 @@
 use mathlib.Core.Path.{◌∙◌}
 use native.Mathlib.Omega.{arith}
-use borrow.Author.Rules.{rules}
 use Rattle.rules.proofs.Meaning.Meanings.{means_sound}
 use Rattle.engine.proofs.Listening.{list_accepted}
 use Rattle.engine.proofs.Gathering.{fits_sound, looked_next, looked_all, list_0, moved_by, shown_gathered, empty_heard}

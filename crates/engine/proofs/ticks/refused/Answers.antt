@@ -1,8 +1,6 @@
 use mathlib.Core.Path.{◌∙◌}
-use native.Mathlib.Omega.{arith}
 use Rattle.engine.proofs.Refusing.{stands_clean}
 use Rattle.engine.proofs.Gathering.{missed, before_first, not_7, list_6, list_7, list_8}
-use borrow.Author.Rules.{rules}
 use Rattle.engine.proofs.ticks.refused.Goals as goal
 
 pub returns-then-breaking-count : goal.returns-then-breaking-count

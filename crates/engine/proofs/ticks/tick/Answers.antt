@@ -1,6 +1,5 @@
 use mathlib.Core.Path.{sym, ◌∙◌}
-use borrow.Author.Tests.{lt-ltb, le-ltb, not-false}
-use borrow.Author.Rules.{rules}
+use borrow.Author.Tests.{lt-ltb, le-ltb}
 use Rattle.rules.specs.Number.{first_that_applies}
 use Rattle.rules.specs.Tick.{tick_of, tick_index, tick_number, offender}
 use Rattle.engine.proofs.Listening.{list_refused, list_heard}
