@@ -1,0 +1,7 @@
+use Rattle.rules.specs.Tick.{held_otherwise}
+use borrow.Author.Rules.{rules}
+use Rattle.engine.proofs.list.held_otherwise.Goals as goal
+
+pub returns : goal.returns
+unfolding held_otherwise
+returns c = simp c.stands_under.ensures

@@ -1,0 +1,7 @@
+use Rattle.rules.specs.Ballot.{ballot_at}
+use borrow.Author.Rules.{rules}
+use Rattle.engine.proofs.said.phase_at.Goals as goal
+
+pub returns : goal.returns
+unfolding ballot_at
+returns c = c.phase_of.ensures
