@@ -9,7 +9,8 @@ use Rattle.run.specs.declared.heads.Survey.{Survey}
 use Rattle.run.specs.Survey.{one_if_written, noted}
 use Rattle.run.proofs.heads.note.Goals as goal
 
-noted_is : (before : Survey) (i : ℕ) (h : Head) (b : Ballot) (five ballots : List ℕ) (more : ℕ) → b ≡ ballot_of h → five ≡ bytes_of b
+noted_is : (before : Survey) (i : ℕ) (h : Head) (b : Ballot) (five ballots : List ℕ) (more : ℕ)
+    → b ≡ ballot_of h → five ≡ bytes_of b
     → ballots ≡ sets before.ballots (i * ballot_bytes) five → more ≡ one_if_written h.decision
     → ◌≡◌ {A = Survey} (record { ballots = ballots; decided = before.decided + more }) (noted before i h)
 unfolding noted
@@ -17,4 +18,5 @@ noted_is before i h b five ballots more own bytes stored m = rw (stored, bytes, 
 
 pub returns : goal.returns
 returns c =
-    noted_is _ _ _ _ _ _ _ c.own_ballot.ensures c.ballot_bytes-five.ensures c.write_ballot.ensures c.one_if_written.ensures.value
+    noted_is _ _ _ _ _ _ _ c.own_ballot.ensures c.ballot_bytes-five.ensures c.write_ballot.ensures
+    c.one_if_written.ensures.value

@@ -21,13 +21,15 @@ small_is file room p e = rw e (planned_small file room)
 
 -- the table that the two calls leave is the one that the contract names
 table_is : (file : List ℕ) (table begun last : List Head) (p : Plan) → p ≡ plan_of file (length table)
-    → begun ≡ starts_in file p.n table → last ≡ rounds_in file p p.rounds begun → last ≡ table_after file table
+    → begun ≡ starts_in file p.n table → last ≡ rounds_in file p p.rounds begun
+    → last ≡ table_after file table
 unfolding table_after
 table_is file table begun last p ep e₁ e₂ = rw (e₂, e₁, ep) refl
 
 -- and so is the answer
-answer_is : (file : List ℕ) (table last : List Head) (p : Plan) (v : Survey) → p ≡ plan_of file (length table)
-    → last ≡ table_after file table → v ≡ survey_of p.n last → outcome_in file p v.decided ≡ outcome_of file table
+answer_is : (file : List ℕ) (table last : List Head) (p : Plan) (v : Survey)
+    → p ≡ plan_of file (length table) → last ≡ table_after file table → v ≡ survey_of p.n last
+    → outcome_in file p v.decided ≡ outcome_of file table
 unfolding outcome_of outcome_in
 answer_is file table last p v ep ez ev =
     ap (λ (d : ℕ). outcome_in file p d) (ap (λ (v' : Survey). v'.decided) ev ∙ survey_counts p.n last)

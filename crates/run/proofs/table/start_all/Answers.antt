@@ -3,8 +3,8 @@ use Rattle.rules.specs.declared.Head.{Head}
 use Rattle.file.specs.Table.{placed}
 use Rattle.run.proofs.table.start_all.Goals as goal
 
-placed_more : (f : ℕ → Head) (table after : List Head) (h : Head) (i : ℕ) → after ≡ placed i f table → h ≡ f i
-    → slice_set after i h ≡ placed (i + 1) f table
+placed_more : (f : ℕ → Head) (table after : List Head) (h : Head) (i : ℕ)
+    → after ≡ placed i f table → h ≡ f i → slice_set after i h ≡ placed (i + 1) f table
 unfolding placed
 placed_more f table after h i e e' = rw (add-one, e, e') refl
 

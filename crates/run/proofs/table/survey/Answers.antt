@@ -6,7 +6,8 @@ use Rattle.run.specs.Survey.{noted, survey_of}
 use Rattle.run.proofs.Surveyed.{survey_decided}
 use Rattle.run.proofs.table.survey.Goals as goal
 
-survey_more : (table : List Head) (shown after : Survey) (i : ℕ) → shown ≡ survey_of i table → after ≡ noted shown i (head_of table i)
+survey_more : (table : List Head) (shown after : Survey) (i : ℕ)
+    → shown ≡ survey_of i table → after ≡ noted shown i (head_of table i)
     → after ≡ survey_of (i + 1) table
 unfolding survey_of
 survey_more table shown after i e e' = rw (add-one, e', e) refl
@@ -16,7 +17,8 @@ unfolding survey_of
 loop-i-init c = record { in_range = omega arith; so_far = c.no_survey-shown.ensures }
 
 pub note-shown-requires-clause-decided_le_i : goal.note-shown-requires-clause-decided_le_i
-note-shown-requires-clause-decided_le_i c = rw c.loop-i.invariant.so_far (survey_decided c.loop-i.i c.args.table.now)
+note-shown-requires-clause-decided_le_i c =
+    rw c.loop-i.invariant.so_far (survey_decided c.loop-i.i c.args.table.now)
 
 pub loop-i-preserved : goal.loop-i-preserved
 loop-i-preserved c = record {
