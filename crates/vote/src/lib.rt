@@ -1,5 +1,5 @@
-// The entries for C, on records of 20 bytes, around the engine by value. Nothing else of the library
-// is exported.
+// The entries for C, on records of 20 bytes, around the engine by value. `vote_c` exports them;
+// nothing else of the library is public.
 #![tactic(auto)]
 
 ghost use Rattle.std.specs.Prelude.{◌≡◌, length, replicate};
