@@ -1,6 +1,5 @@
 use native.Mathlib.Nat.{add-zero}
-use borrow.Author.Tests.{lt-ltb, le-ltb}
-use borrow.Author.Rules.{rules}
+use borrow.Author.Tests.{lt-ltb}
 use Rattle.rules.specs.Ballot.{ballot_at}
 use Rattle.codes.proofs.ballots.ballot_at.Goals as goal
 

@@ -1,3 +1,4 @@
+use native.Mathlib.Omega.{arith}
 use borrow.Author.Tests.{ne_eqb}
 use Rattle.rules.specs.Ballot.{status_of}
 use Rattle.codes.proofs.code.status_of.Goals as goal
@@ -8,4 +9,4 @@ returns-in-0 c = simp c.in-0.is
 
 pub returns-in_default : goal.returns-in_default
 unfolding status_of
-returns-in_default c = simp (ne_eqb _ _ c.in_default.in_default-own.rest.1)
+returns-in_default c = simp (ne_eqb c.args.code 0 (omega arith))

@@ -1,3 +1,4 @@
+use native.Mathlib.Omega.{arith}
 use borrow.Author.Tests.{ne_eqb}
 use Rattle.rules.specs.Ballot.{value_of}
 use Rattle.codes.proofs.code.value_of.Goals as goal
@@ -12,4 +13,4 @@ returns-in-1 c = simp c.in-1.is
 
 pub returns-in_default : goal.returns-in_default
 unfolding value_of
-returns-in_default c = simp (ne_eqb _ _ c.in_default.in_default-own.rest.0.1, ne_eqb _ _ c.in_default.in_default-own.rest.1)
+returns-in_default c = simp (ne_eqb c.args.code 0 (omega arith), ne_eqb c.args.code 1 (omega arith))

@@ -1,5 +1,4 @@
-use borrow.Author.Tests.{eq-eqb, ne_eqb}
-use borrow.Author.Rules.{rules}
+use borrow.Author.Tests.{eq-eqb}
 use Rattle.rules.specs.Record.{head_at}
 use Rattle.codes.proofs.records.head_at.Goals as goal
 

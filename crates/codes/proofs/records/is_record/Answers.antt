@@ -1,6 +1,5 @@
 use borrow.Author.Tests.{eq-eqb, ne_eqb}
 use Rattle.rules.specs.Record.{is_record}
-use borrow.Author.Rules.{rules}
 use Rattle.codes.proofs.records.is_record.Goals as goal
 
 pub returns-then-head_record-ne-RECORD_BYTES : goal.returns-then-head_record-ne-RECORD_BYTES

@@ -1,6 +1,5 @@
 use Rattle.rules.proofs.Counting.Sets.{member_high}
 use mathlib.Core.Path.{sym}
-use borrow.Author.Rules.{rules}
 use Rattle.codes.proofs.sets.member.Goals as goal
 
 pub returns-else-s-lt32 : goal.returns-else-s-lt32

@@ -4,8 +4,6 @@ use native.Mathlib.Nat.{lt_of_lt_of_le}
 use native.Mathlib.Omega.{arith}
 use lib.Pow.{pow_mono}
 use borrow.Author.Tests.{lt-ltb}
-use borrow.Author.Rules.{rules}
-use Rattle.rules.proofs.Counting.Sets.{shifted}
 use Rattle.codes.proofs.sets.within.Goals as goal
 
 pub returns-else-n-lt64 : goal.returns-else-n-lt64
