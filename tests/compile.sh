@@ -28,6 +28,6 @@ link() { # NAME OBJECT..
     for word in "$@"; do
         case $word in */*) words+=("$word") ;; *) words+=("$work/$word") ;; esac
     done
-    quietly "linking" "$own/bin/rattle-link" --target "$target" --toolchain "$tools" \
+    quietly "linking" "$kit/bin/rattle-link" --target "$target" --toolchain "$tools" \
         -o "$work/$program" "${words[@]}"
 }

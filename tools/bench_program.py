@@ -5,7 +5,7 @@ import subprocess
 from concurrent.futures import ThreadPoolExecutor
 
 ROOT = os.path.normpath(os.path.join(os.path.dirname(os.path.abspath(__file__)), ".."))
-PROGRAM = os.path.join(ROOT, "target", "bin", "bench")
+PROGRAM = os.path.join(ROOT, "crates", "bench", "out", "bench")
 
 
 class Trouble(Exception):
@@ -16,10 +16,7 @@ class Program:
     """Proved and built.  The script ./bench sees to that, run once on a sound file."""
 
     def __init__(self, data):
-        printed([os.path.join(ROOT, "bench")], data, os.environ)
-        self.words = starting_words() + [PROGRAM]
-        # As tools/kit.sh has it: nothing that would change how an emulator runs the program.
-        self.environment = {word: os.environ[word] for word in os.environ if not word.startswith("QEMU_")}
+        printed(os.path.join(ROOT, "bench"), data)
 
     def reports(self, files, tell):
         """The reports of the files, in their order; `tell` is told how many are there.
@@ -28,28 +25,18 @@ class Program:
         """
         reports = []
         with ThreadPoolExecutor(os.cpu_count() or 1) as pool:
-            for report in pool.map(lambda data: printed(self.words, data, self.environment), files):
+            for report in pool.map(lambda data: printed(PROGRAM, data), files):
                 reports.append(report)
                 tell(len(reports))
         return reports
 
 
-def starting_words():
-    """The words that a program is started with, as tools/kit.sh finds them."""
-    script = '. tools/kit.sh && find_kit && printf "%s\\n" "${starter[@]}"'
-    variables = dict(os.environ, name="bench", work="target/bench")
-    found = subprocess.run(["bash", "-c", script], cwd=ROOT, env=variables, stdout=subprocess.PIPE)
-    if found.returncode:
-        raise Trouble("the program bench cannot be started")
-    return found.stdout.decode().splitlines()
-
-
-def printed(words, data, environment):
+def printed(program, data):
     """What a program prints for the file on its standard input."""
     try:
-        ended = subprocess.run(words, input=data, stdout=subprocess.PIPE, env=environment)
+        ended = subprocess.run([program], input=data, stdout=subprocess.PIPE)
     except OSError as error:
-        raise Trouble("%s cannot be started: %s" % (words[-1], error.strerror))
+        raise Trouble("%s cannot be started: %s" % (program, error.strerror))
     if ended.returncode:
-        raise Trouble("%s ended with status %d" % (words[-1], ended.returncode))
+        raise Trouble("%s ended with status %d" % (program, ended.returncode))
     return ended.stdout.decode("ascii", "replace")

@@ -1,5 +1,5 @@
 # Sourced where what rt builds is run: the program of a crate, or a program in C with the archive of
-# the crate vote.
+# the crate vote_c.
 # It needs the command rt, and the kit that rt stands in. Who sources it stands in the repository's
 # folder and sets, before the first call: `name`, its name in messages, and `work`, the folder under
 # target/ for all that it makes. Trouble is one line on standard error, and status 2.
@@ -8,46 +8,47 @@
 
 archive=target/staticlib/libvote.a
 
-# Finds the kit, makes the folder, and sets `starter`: the words that a program is run with, as rt
-# runs one. That is under the kit's loader and C library and, on another processor than x86-64,
-# under the kit's emulator.
+# Finds the kit, and makes the folder.
 find_kit() {
-    local rt emulator word
+    local rt
     rt=$(command -v rt) || fail "the command rt is not there: put it on PATH"
     kit=$(dirname "$(dirname "$(readlink -f "$rt")")")
-    own=$kit/on/$(uname -m)
-    tools=$own/toolchain
+    tools=$kit/toolchain
     target=x86_64-unknown-linux-gnu
-    [ -x "$tools/bin/clang" ] || fail "the kit of rt has no compiler for this machine, $(uname -m)"
+    [ "$(uname -m)" = x86_64 ] && [ -x "$tools/bin/clang" ] ||
+        fail "the kit of rt has no compiler for this machine, $(uname -m)"
     make_folder
-    emulator=$tools/bin/qemu-x86_64
-    [ -x "$emulator" ] || emulator=''
-    starter=(${emulator:+"$emulator"} "$tools/lib/ld-linux-x86-64.so.2" --library-path "$tools/lib")
-    for word in "${!QEMU_@}"; do unset "$word"; done
 }
 
-# Both rt and its caller write there.
+# All that rt does not make goes there.
 make_folder() {
     mkdir -p "$work" 2>/dev/null && [ -w target ] && [ -w "$work" ] && : 2>/dev/null >>"$work/log" ||
-        fail "the folder $PWD/target cannot be written: what is proved and built goes there"
+        fail "the folder $PWD/target cannot be written: what is built here goes there"
 }
 
-start() { # PROGRAM WORDS..
-    "${starter[@]}" "$@"
+# The program of a crate, as rt leaves it.
+program_of() { # CRATE
+    echo "crates/$1/out/$1"
 }
 
-# Proves the program of a crate and builds it: target/bin/NAME. Where nothing has changed, that
-# takes a moment.
-build_crate() { # NAME
-    prove "target/bin/$1" "$1" rt check "$1"
-    [ -x "target/bin/$1" ] || fail "rt check $1 left no target/bin/$1"
-    touch "target/bin/$1" # rt goes by what a source holds, is_fresh by its time
+# Proves the program of a crate and builds it. rt run starts it too, on an empty input here. What
+# rt ci built counts as well.
+build_crate() { # CRATE
+    prove "$(program_of "$1")" "$1" rt run
+    [ -x "$(program_of "$1")" ] || fail "rt run left no $(program_of "$1")"
 }
 
-# Proves the crate vote and writes its archive. rt would prove it at every call, so it is not asked
-# where the archive is fresh.
+# Proves the entries for C and builds their archive, which C callers know as libvote.a.
 build_archive() {
-    is_fresh "$archive" crates crates.txt || prove "$archive" vote rt staticlib vote
+    local made=crates/vote_c/out/libvote_c.a
+    ! is_built "$archive" || return 0
+    prove "$made" vote_c rt lib
+    mkdir -p "$(dirname "$archive")" && cp -p "$made" "$archive" || fail "cannot write $archive"
+}
+
+# Whether rt has built a file since the sources and the kit are as they are.
+is_built() { # FILE
+    is_fresh "$1" crates/*/src crates/*/specs crates/*/proofs crates.txt "$kit/KIT-ID"
 }
 
 # Whether a file is there and nothing among the sources, files or folders, is newer.

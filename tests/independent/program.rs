@@ -6,7 +6,7 @@ use std::sync::mpsc;
 use std::thread;
 use std::time::Duration;
 
-/// Far more than the largest file takes under an emulator.
+/// Far more than the largest file takes.
 const LONGEST: Duration = Duration::from_secs(60);
 
 /// The words that begin the program.

@@ -30,15 +30,16 @@ from seeded import PAPER, seeds
 from tree import PAGES, Tree, text_of
 
 WIDEST = 120
+PORT = "docs/PORT.md"
 NAME = re.compile(r"[^\W\d][\w'-]*(::\w+)?")
 PATH = re.compile(r"[\w./*-]*(/[\w.*-]+|\.(antt|rt|md|py|c|h|rs|sh|run|edit|txt|svg|out))/?")
 IN_PHRASE = re.compile(r"[\w./*'-]*[^\W\d_][\w./*'-]*")
 
 
 def papers():
-    """The text of each paper, by path."""
+    """The text of each paper, by path.  The page on the port is none: it has old names beside those of the tree."""
     paths = ["README.md"] + sorted(glob.glob("docs/**/*.md", recursive=True))
-    return {path: text_of(path) for path in paths}
+    return {path: text_of(path) for path in paths if path != PORT}
 
 
 def all_faults(texts, tree):

@@ -12,8 +12,8 @@ def seeds(texts, tree):
     for theorem in tree.theorems:
         yield "the theorem %s not named" % theorem, without(texts, "`%s`" % theorem), "theorems"
     for what, line in (
-        ("a definition that is not there", "`tickOff`"),
-        ("a theorem that is not there", "`no-three-decisions-differ`"),
+        ("a definition that is not there", "`tick_off`"),
+        ("a theorem that is not there", "`no_three_decisions_differ`"),
         ("an edit that is not there", "`demand3_a_third_is_enough`"),
         ("a beginning of no name", "`demand9_..`"),
         ("a function of another crate", "`engine::report`"),
@@ -22,8 +22,8 @@ def seeds(texts, tree):
         ("a file of no such name", "`Tock.antt`"),
         ("files of no such shape", "`crates/*/must-fail/*.edits`"),
         ("a command whose file is not there", "`bash tests/papers/walk`"),
-        ("a formula with a word of no source", "`r ≡ tickOff head`"),
-        ("a name on two lines", "`two-lossless-rounds\ndecide`"),
+        ("a formula with a word of no source", "`r ≡ tick_off head`"),
+        ("a name on two lines", "`two_lossless_rounds\ndecide`"),
         ("a block of code with a file that is not there", "\n    ./bench samples/00-none.run\n"),
         ("a fence with a file that is not there", "```\ntools/paint samples/01-printed-case.run\n```"),
         ("a dead link", "[x](../NOWHERE.md)"),
@@ -31,10 +31,10 @@ def seeds(texts, tree):
         ("a link to no heading here", "[x](#demand-4)"),
         ("a wide line", "a " * 61),
         ("a wide cell", "| " + "a" * 121 + " | b |"),
-        ("a name in another file", "| A | File |\n|---|---|\n| `tickOf` | `Ballot.antt` |"),
+        ("a name in another file", "| A | File |\n|---|---|\n| `tick_of` | `Ballot.antt` |"),
         ("a function in another file", "| A | Code |\n|---|---|\n| a | `tick`, `look.rt` |"),
         ("a row of too many cells", "| A | File |\n|---|---|\n| a | `Tick.antt` | b |"),
-        ("a name in no file", "| A | File |\n|---|---|\n| `tickOf` | |"),
+        ("a name in no file", "| A | File |\n|---|---|\n| `tick_of` | |"),
     ):
         yield what, with_line(texts, line), "paper"
 

@@ -3,7 +3,7 @@
 import os
 import re
 
-LEFT_OUT = {".git", "target", "__pycache__"}
+LEFT_OUT = {".git", "target", "out", "__pycache__"}
 HERE = "tests/papers/"       # whose errors on purpose have words of their own
 TEXTS = (".antt", ".rt", ".h", ".c", ".py", ".rs", ".sh", ".txt", ".edit")
 PAGES = ("crates/rules/proofs/Demands.antt", "crates/rules/proofs/Offender.antt",
@@ -17,7 +17,7 @@ RT = re.compile(r"\b(?:fn|struct|enum|const|mod) (\w+)"
                 r"|[(,] ?(\w+): ", re.M)                                        # a parameter
 C = re.compile(r"#define (\w+)|\b(\w+)\(")
 PYTHON = re.compile(r"^ *(?:def|class) (\w+)|^([A-Z_]+) =", re.M)
-THEOREM = re.compile(r"^pub ([a-z0-9-]+) :", re.M)
+THEOREM = re.compile(r"^pub ([a-z0-9_]+) :", re.M)
 WORD = re.compile(r"[^\W\d_][\w'-]*")
 
 

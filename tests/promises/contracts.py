@@ -2,13 +2,14 @@
 
     python3 tests/promises/contracts.py
 
-Public is what says `pub fn` or `pub extern "C" fn` in a crate of crates.txt.  Each has an `ensures` and no
-`requires`: with one, the gate would still prove all, and a caller that breaks it would be promised nothing.
-include/vote.h declares the functions that are exported, with their types, and has each number of the tables in
-crates/rules/specs/Given.antt with the words that are quoted there.
+Public is what says `pub fn` or `pub extern "C" fn` in a crate of crates.txt, so of `vote` and of `vote_c` too.  Each
+has an `ensures` and no `requires`: with one, the gate would still prove all, and a caller that breaks it would be
+promised nothing.  include/vote.h declares the functions that are exported, with their types, and has each number of the
+tables in crates/rules/specs/Given.antt with the words that are quoted there.
 
-Each time, every function is tried with a `requires` put in and with its `ensures` taken out, and the header with an
-entry, a type, a number and a word changed: what is not found then is a failure too.
+Each time, every function is tried with a `requires` put in and with its `ensures` taken out, every entry without the
+attribute that exports it, and the header with an entry, a type, a number and a word changed: what is not found then is
+a failure too.
 """
 
 import os
@@ -17,7 +18,7 @@ import sys
 sys.dont_write_bytecode = True
 
 from header import header_faults, header_with_errors
-from sources import functions, sources, with_requires, without_ensures
+from sources import functions, sources, with_requires, without_ensures, without_export
 
 
 def contract_faults(texts):
@@ -41,6 +42,10 @@ def tried(texts, header):
                 count += 1
                 if not contract_faults({path: edited}):
                     missed.append("%s: %s with %s is not found" % (path, function.name, what))
+            if function.exported:
+                count += 1
+                if not header_faults(header, {**texts, path: without_export(text, function)}):
+                    missed.append("%s: %s under another symbol is not found" % (path, function.name))
     for what, edited in header_with_errors(header):
         count += 1
         if edited == header or not header_faults(edited, texts):

@@ -78,9 +78,9 @@ def given_numbers():
         text = file.read()
     given = {}
     for definition in re.split(r'\n\n', text):
-        if "readTable :" in definition:
+        if "read_table :" in definition:
             continue
-        rows = re.findall(r'((?:[ \t]*--[^\n]*\n)*)[^\n]*\((\d+) exactly-when', definition)
+        rows = re.findall(r'((?:[ \t]*--[^\n]*\n)*)[^\n]*\((\d+) exactly_when', definition)
         for comment, number in rows:
             quote = re.search(r'"(.*)"', " ".join(comment.replace("--", "").split()))
             parts = quote.group(1).split("..") if quote else []

@@ -4,8 +4,9 @@ import glob
 import re
 from typing import NamedTuple
 
-PUBLIC = re.compile(r'^[ \t]*pub (extern "C" )?fn (\w+)', re.M)
-CLAUSE = re.compile(r'\b(requires|ensures)\s*$')
+PUBLIC = re.compile(r'((?:^[ \t]*#\[[^\n]*\]\n)*)^[ \t]*pub (?:(?:const|unsafe) )*(extern "C" )?fn (\w+)', re.M)
+CLAUSE = re.compile(r'\b(requires|ensures)\*?(\s+\w+)?\s*$')     # some have names
+EXPORT = "#[unsafe(no_mangle)]"
 
 
 class Function(NamedTuple):
@@ -22,7 +23,7 @@ def sources():
     """The text of every file of code, by path."""
     texts = {}
     with open("crates.txt") as file:
-        crates = [line.split(":")[0].strip() for line in file if ":" in line.split("#")[0]]
+        crates = [line.split()[0].rstrip(":") for line in file if ":" in line.split("#")[0]]
     for crate in crates:
         for path in glob.glob("crates/%s/src/**/*.rt" % crate, recursive=True):
             with open(path) as file:
@@ -50,8 +51,9 @@ def function_at(text, found):
         first = first or clause.start()
         at = end_of_braces(text, at)
     first = first or at
-    return Function(found.group(2), bool(found.group(1)), text[found.end():first].strip(), tuple(clauses),
-                    found.start(), first, at)
+    attributes, is_for_c, name = found.groups()
+    exported = bool(is_for_c) and EXPORT in attributes
+    return Function(name, exported, text[found.end():first].strip(), tuple(clauses), found.start(), first, at)
 
 
 def end_of_braces(text, at):
@@ -66,8 +68,12 @@ def end_of_braces(text, at):
 # ---- The same text with an error
 
 def with_requires(text, function):
-    return text[:function.first_clause] + "requires { ⌜ 0 ≡ 0 ⌝ }\n    " + text[function.first_clause:]
+    return text[:function.first_clause] + "requires { 0 ≡ 0 }\n    " + text[function.first_clause:]
 
 
 def without_ensures(text, function):
     return text[:function.first_clause] + text[function.body:]
+
+
+def without_export(text, function):
+    return text[:function.start] + text[function.start:].replace(EXPORT, "", 1)

@@ -1,9 +1,11 @@
 # Sourced after tests/compile.sh: compiles C as the kit compiles what it builds.
 
-# The words that the kit compiles an archive with; a program has -fPIE for -fPIC. There is no way to
-# ask rt for them: they were read off the processes that `rt staticlib` starts.
+# The words that the kit compiles an archive with; a program has -fPIE for -fPIC, and those that merge
+# functions of the same code. There is no way to ask rt for them: they were read off the processes that
+# `rt lib` and `rt run` start.
 flags=(-O3 -march=x86-64 -ffunction-sections -fdata-sections
-    -mllvm -trap-unreachable -mllvm -no-trap-after-noreturn)
+    -mllvm -trap-unreachable -mllvm -no-trap-after-noreturn -mllvm -no-x86-call-frame-opt
+    -mllvm -disable-machine-licm -mllvm -disable-postra-machine-licm -mllvm -sink-common-insts=false)
 
 compile_as_kit() { # FILE.c OBJECT WORDS..
     compile "$@" "${flags[@]}"

@@ -1,10 +1,9 @@
 /*
  * Times two whole programs on the same files, in turn, and prints medians and their ratio.
  *
- *   programs RUNS OURS C EMPTY FILE.. -- STARTER..
+ *   programs RUNS OURS C EMPTY FILE..
  *
- * A program is run with the words of STARTER before it, a file as its standard input, and what it
- * prints thrown away. What counts is the processor's time, its own and the system's for it, since
+ * A program is run with a file as its standard input, and what it prints thrown away. What counts is the processor's time, its own and the system's for it, since
  * that of the clock has other programs' time in it. EMPTY is an empty file: what a program takes on
  * it is its start, and each other figure is given whole and without it.
  */
@@ -12,7 +11,6 @@
 
 int printf(const char *format, ...);
 int atoi(const char *digits);
-int strcmp(const char *a, const char *b);
 int open(const char *path, int flags, ...);
 int dup2(int from, int to);
 int fork(void);
@@ -28,17 +26,15 @@ struct usage {
 int wait4(int child, int *status, int options, struct usage *usage);
 
 enum { READ_ONLY = 0, WRITE_ONLY = 1 };
-enum { RUNS_MOST = 1001, FILES_MOST = 8, WORDS_MOST = 16 };
+enum { RUNS_MOST = 1001, FILES_MOST = 8 };
 
-static char *words[WORDS_MOST];
-static size_t starter_words;
-
-_Noreturn static void become(const char *file)
+_Noreturn static void become(char *program, const char *file)
 {
+    char *words[] = {program, 0};
     const int from = open(file, READ_ONLY), to = open("/dev/null", WRITE_ONLY);
     if (from < 0 || to < 0 || dup2(from, 0) < 0 || dup2(to, 1) < 0)
         _exit(126);
-    execv(words[0], words);
+    execv(program, words);
     _exit(127);
 }
 
@@ -52,10 +48,9 @@ static double run(char *program, const char *file)
 {
     struct usage usage;
     int child, status = 1;
-    words[starter_words] = program;
     child = fork();
     if (child == 0)
-        become(file);
+        become(program, file);
     if (child < 0 || wait4(child, &status, 0, &usage) != child || status != 0)
         return -1;
     return microseconds(usage.own) + microseconds(usage.system);
@@ -111,17 +106,13 @@ static void print_all(int runs, char *const files[], int count)
 
 int main(int count, char **given)
 {
-    int runs, end = 4;
-    while (end < count && strcmp(given[end], "--") != 0)
-        end++;
-    for (int i = end + 1; i < count && starter_words < WORDS_MOST - 2; i++)
-        words[starter_words++] = given[i];
-    if (end < 5 || end > 4 + FILES_MOST || starter_words == 0)
+    int runs;
+    if (count < 5 || count > 4 + FILES_MOST)
         return 2;
     if ((runs = atoi(given[1])) < 1 || runs > RUNS_MOST)
         return 2;
-    if (!run_all(runs, given + 2, given + 4, end - 4))
+    if (!run_all(runs, given + 2, given + 4, count - 4))
         return 1;
-    print_all(runs, given + 4, end - 4);
+    print_all(runs, given + 4, count - 4);
     return 0;
 }
