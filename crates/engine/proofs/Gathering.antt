@@ -287,9 +287,9 @@ module _ (h : Head) (l : List ℕ) (look : Look) (is : Looks h l look) (end : lo
       go (copies i b q u f) =
           let e : (ballot_at l i).phase ≡ look.phase = sym (ap (λ (k : Head). k.phase) q) ∙ moved_phase in
           let p = leader_leads l (omega arith) in
-          let some-above = some_here (ballots l) (above h l) i b (lt-ltb h.phase (ballot_at l i).phase u) in
+          let some_above = some_here (ballots l) (above h l) i b (lt-ltb h.phase (ballot_at l i).phase u) in
           ap₂ (λ (t : Bool) (b : Ballot). cond t (copying h b) h)
-          (lt-ltb h.phase look.phase (omega arith) ∙ sym some-above)
+          (lt-ltb h.phase look.phase (omega arith) ∙ sym some_above)
           (foremost_leads fits p (omega (arith, f (leader l) p.within, leader_highest l i b)))
 
   pub shown_gathered : (g : Head) → g ≡ moved h l → shown g look ≡ gathered h l

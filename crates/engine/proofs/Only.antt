@@ -6,7 +6,7 @@ use mathlib.Core.Path.{◌≡◌}
 use Rattle.rules.proofs.Meaning.Answers.{only}
 use Rattle.rules.proofs.Layouts.Ballots.{one_answer}
 use Rattle.engine.proofs.ballot.read.Reads as read
-use Rattle.engine.proofs.head.own_ballot.Reads as own-ballot
+use Rattle.engine.proofs.head.own_ballot.Reads as own_ballot
 use Rattle.engine.proofs.head.send.Reads as send
 use Rattle.engine.proofs.head.sound.Reads as sound
 use Rattle.engine.proofs.head.start.Reads as start
@@ -27,5 +27,5 @@ send_only κs a r r' s s' p q = only p q
 pub sound_only : (κs : _) (a : _) (r r' : _) (s s' : _) → sound.Post κs a r s → sound.Post κs a r' s' → r ≡ r'
 sound_only κs a r r' s s' p q = only p q
 
-pub own_ballot_only : (κs : _) (a : _) (r r' : _) (s s' : _) → own-ballot.Post κs a r s → own-ballot.Post κs a r' s' → r ≡ r'
+pub own_ballot_only : (κs : _) (a : _) (r r' : _) (s s' : _) → own_ballot.Post κs a r s → own_ballot.Post κs a r' s' → r ≡ r'
 own_ballot_only κs a r r' s s' p q = only p q

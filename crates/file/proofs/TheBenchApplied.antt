@@ -126,7 +126,7 @@ a_table_of_one_is_left h = a_refused_file_changes_nothing two_heads (h ∷ []) t
     sixteen = unfold reporting in refl
 
     too_short : Accepts two_heads (h ∷ []) → ⊥
-    too_short zero-given = omega (arith, sixteen, zero-given)
+    too_short zero_given = omega (arith, sixteen, zero_given)
 
 -- two heads in a table of four
 pub the_third_and_fourth_are_untouched : drop 2 (table_after two_heads lent) ≡ others
@@ -295,9 +295,9 @@ pub where_all_are_counted_they_agree : (file : List ℕ) (table : List Head)
 where_all_are_counted_they_agree file table accepts all s t hs ht =
     let figure = the_last_figure_counts_written_decisions file table accepts in
     let every = all_counted (plan_for file table).n figure.0 (sym figure.2 ∙ all) in
-    let wrote-s = (figure.1 s hs).0 (every s hs) in
-    let wrote-t = (figure.1 t ht).0 (every t ht) in
-    (wrote-s, no_two_decisions_in_the_table_differ file table accepts s t hs ht wrote-s wrote-t)
+    let wrote_s = (figure.1 s hs).0 (every s hs) in
+    let wrote_t = (figure.1 t ht).0 (every t ht) in
+    (wrote_s, no_two_decisions_in_the_table_differ file table accepts s t hs ht wrote_s wrote_t)
 
 -- "Five wrote it": in W2's vote head 0, whose status went back, has written what head 4 has
 pub five_wrote_it : let after = table_after status_put_back empty_table in

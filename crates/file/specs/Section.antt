@@ -21,12 +21,12 @@ body_of file (Refused number place) = []
 -- count stands at a place, with a body of so many bytes, in pieces of so many. "Place of a refusal: 12, the file's
 -- length; 13, the count; 14, the byte, or the row's first byte".
 unfoldable pub section_at : List ℕ → ℕ → Bool → ℕ → ℕ → (List ℕ → ℕ → Bool) → Section
-section_at file at countBreaks size width breaks =
+section_at file at count_breaks size width breaks =
     let body = body_of file (Body (at + 2) size) in
     let pieces = length body / width in
     let broken = first pieces (λ i. breaks body (i * width)) in
     cond (ltb (length file) (at + 2)) (Refused 12 (length file))
-    (cond countBreaks (Refused 13 at)
+    (cond count_breaks (Refused 13 at)
     (cond (ltb (length file) (at + 2 + size)) (Refused 12 (length file))
     (cond (ltb broken pieces) (Refused 14 (at + 2 + broken * width)) (Body (at + 2) size))))
 

@@ -127,8 +127,8 @@ a_reading_names_its_ballot n bytes = (refl, λ e. go ((read_given n bytes 6).0 e
   where
     go : Given 6 0 (read_table n bytes) → FirstBallot bytes (Breaks n bytes) 0
     go (inl x) = absurd (omega (arith, x.1))
-    go (inr (no-1, inl x)) = absurd (omega (arith, x.1))
-    go (inr (no-1, inr (no-5, inl x))) =
-        let five = not_not (means_eq (length bytes) 5) (λ other. no-5 0 (other, refl)) in
+    go (inr (no_1, inl x)) = absurd (omega (arith, x.1))
+    go (inr (no_1, inr (no_5, inl x))) =
+        let five = not_not (means_eq (length bytes) 5) (λ other. no_5 0 (other, refl)) in
         (omega (arith, five), x.0.0, λ j b. absurd (omega (arith, b)))
-    go (inr (no-1, inr (no-5, inr (no-6, none)))) = absurd (omega (arith, none.0))
+    go (inr (no_1, inr (no_5, inr (no_6, none)))) = absurd (omega (arith, none.0))

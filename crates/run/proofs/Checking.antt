@@ -30,11 +30,11 @@ checked_body file body section answer start size width broken breaks is at found
     ∙ ap (λ (part : List ℕ). unless_broken start size (first (length part / width) (λ i. breaks part (i * width))) (length part / width) width) at ∙ sym (ap (checked file width breaks) is)
 
 -- the count and the bytes, one after the other
-pub in_order : (file : List ℕ) (at : ℕ) (countBreaks : Bool) (size width : ℕ) (breaks : List ℕ → ℕ → Bool)
-    → checked file width breaks (counted file at countBreaks size) ≡ section_at file at countBreaks size width breaks
+pub in_order : (file : List ℕ) (at : ℕ) (count_breaks : Bool) (size width : ℕ) (breaks : List ℕ → ℕ → Bool)
+    → checked file width breaks (counted file at count_breaks size) ≡ section_at file at count_breaks size width breaks
 unfolding counted checked unless_broken section_at
-in_order file at countBreaks size width breaks =
-    go (ltb (length file) (at + 2)) countBreaks (ltb (length file) (at + 2 + size))
+in_order file at count_breaks size width breaks =
+    go (ltb (length file) (at + 2)) count_breaks (ltb (length file) (at + 2 + size))
   where
     go : (a b c : Bool)
         → checked file width breaks (ordered file at a b c (Body (at + 2) size))

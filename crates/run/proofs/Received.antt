@@ -44,7 +44,7 @@ Kept ballots lost n list left k at =
     (at ≤ min k n * 5) × (length list ≡ 160) × (take at list ≡ received_from ballots lost (min k n))
     × (drop (min k n * 5) list ≡ drop (min k n * 5) ballots) × Left lost k left × (k ≡ first 32 (λ s. member s left))
 
-module _ (ballots list : List ℕ) (lost n from left k at : ℕ) (small : n ≤ 32) (low : from ≤ n) (is-left : Left lost from left)
+module _ (ballots list : List ℕ) (lost n from left k at : ℕ) (small : n ≤ 32) (low : from ≤ n) (is_left : Left lost from left)
     (next : k ≡ first 32 (λ s. member s left)) where
   not_left : (s : ℕ) → s < k → member s left ≡ false
   not_left s h = first_before 32 (λ s. member s left) s (omega (arith, next))
@@ -56,20 +56,20 @@ module _ (ballots list : List ℕ) (lost n from left k at : ℕ) (small : n ≤ 
   not_below = elim (dec_lt k from) [ yes l ↦ never (sym (absent l) ∙ there l) | no l ↦ omega (arith, l) ]
     where
       absent : k < from → member k left ≡ false
-      absent l = is-left k (omega arith) ∙ ap (λ (t : Bool). t && not (member k lost)) (lt-leb from k l)
+      absent l = is_left k (omega arith) ∙ ap (λ (t : Bool). t && not (member k lost)) (lt-leb from k l)
 
       there : k < from → member k left ≡ true
       there l = ap (λ (x : ℕ). member x left) next ∙ first_holds 32 (λ s. member s left) (omega (arith, next))
 
   gone : (s : ℕ) → from ≤ s → s < k → member s lost ≡ true
   gone s a b =
-      let e : leb from s && not (member s lost) ≡ false = sym (is-left s (omega (arith, k_small))) ∙ not_left s b in
+      let e : leb from s && not (member s lost) ≡ false = sym (is_left s (omega (arith, k_small))) ∙ not_left s b in
       not-false (member s lost) (sym (ap (λ (t : Bool). t && not (member s lost)) (le-leb from s a)) ∙ e)
 
   left_from_next : Left lost k left
   left_from_next s h = elim (dec_lt s k) [
     | yes l ↦ not_left s l ∙ sym (rw (lt-leb k s l) refl)
-    | no l ↦ is-left s h
+    | no l ↦ is_left s h
         ∙ rw (le-leb from s (omega (arith, l, not_below)), le-leb k s (omega (arith, l))) refl
   ]
 

@@ -3,19 +3,19 @@
 -- lifetimes, `a` is what the function is handed, `r` its answer and `s` what it leaves in what it was lent.
 use mathlib.Core.Path.{◌≡◌}
 use Rattle.rules.proofs.Meaning.Answers.{only}
-use Rattle.vote.proofs.vote_ballot.Reads as vote-ballot
-use Rattle.vote.proofs.vote_start.Reads as vote-start
-use Rattle.vote.proofs.vote_tick.Reads as vote-tick
+use Rattle.vote.proofs.vote_ballot.Reads as vote_ballot
+use Rattle.vote.proofs.vote_start.Reads as vote_start
+use Rattle.vote.proofs.vote_tick.Reads as vote_tick
 
 -- the number, and the lent record's later contents
-pub vote_start_only : (κs : _) (a : _) (r r' : _) (s s' : _) → vote-start.Post κs a r s → vote-start.Post κs a r' s' → (r ≡ r') × (s.0.now ≡ s'.0.now)
+pub vote_start_only : (κs : _) (a : _) (r r' : _) (s s' : _) → vote_start.Post κs a r s → vote_start.Post κs a r' s' → (r ≡ r') × (s.0.now ≡ s'.0.now)
 vote_start_only κs a r r' s s' p q = (only p.0 q.0, only p.1 q.1)
 
 -- and the lent index's
-pub vote_tick_only : (κs : _) (a : _) (r r' : _) (s s' : _) → vote-tick.Post κs a r s → vote-tick.Post κs a r' s'
+pub vote_tick_only : (κs : _) (a : _) (r r' : _) (s s' : _) → vote_tick.Post κs a r s → vote_tick.Post κs a r' s'
     → (r ≡ r') × (s.0.now ≡ s'.0.now) × (s.1.1.1.0.now ≡ s'.1.1.1.0.now)
 vote_tick_only κs a r r' s s' p q = (only p.0 q.0, only p.1.0 q.1.0, only p.1.1 q.1.1)
 
 -- the number, and the lent buffer's later contents
-pub vote_ballot_only : (κs : _) (a : _) (r r' : _) (s s' : _) → vote-ballot.Post κs a r s → vote-ballot.Post κs a r' s' → (r ≡ r') × (s.1.0.now ≡ s'.1.0.now)
+pub vote_ballot_only : (κs : _) (a : _) (r r' : _) (s s' : _) → vote_ballot.Post κs a r s → vote_ballot.Post κs a r' s' → (r ≡ r') × (s.1.0.now ≡ s'.1.0.now)
 vote_ballot_only κs a r r' s s' p q = (only p.0 q.0, only p.1 q.1)

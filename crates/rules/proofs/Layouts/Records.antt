@@ -79,7 +79,7 @@ record_only r small e =
     let e₁ = and_right (eqb (length r) 20) _ e in
     let e₂ = and_right (ltb (get_or r 4 0) 3) _ e₁ in
     let e₃ = and_right (ltb (get_or r 5 0) 2) _ e₂ in
-    let zero-byte = eqb-true (get_or r 7 0) 0 (and_right (ltb (get_or r 6 0) 3) _ e₃) in
+    let zero_byte = eqb-true (get_or r 7 0) 0 (and_right (ltb (get_or r 6 0) 3) _ e₃) in
     let value = value_code_back (get_or r 4 0) (ltb-true (get_or r 4 0) 3 (and_left (ltb (get_or r 4 0) 3) _ e₁)) in
     let status = status_code_back (get_or r 5 0) (ltb-true (get_or r 5 0) 2 (and_left (ltb (get_or r 5 0) 2) _ e₂)) in
     let decision = decision_code_back (get_or r 6 0) (ltb-true (get_or r 6 0) 3 (and_left (ltb (get_or r 6 0) 3) _ e₃)) in
@@ -89,4 +89,4 @@ record_only r small e =
     sym
     (number_by_number 20 r (eqb-true (length r) 20 (and_left (eqb (length r) 20) _ e))
     ∙ simp
-    (zero-byte, value, status, decision, high_byte (get_or r 2 0) (get_or r 3 0) (small 3), low_byte (get_or r 2 0) (get_or r 3 0) (small 3), zeros.first, zeros.second, zeros.third, zeros.fourth, ones.first, ones.second, ones.third, ones.fourth, blanks.first, blanks.second, blanks.third, blanks.fourth))
+    (zero_byte, value, status, decision, high_byte (get_or r 2 0) (get_or r 3 0) (small 3), low_byte (get_or r 2 0) (get_or r 3 0) (small 3), zeros.first, zeros.second, zeros.third, zeros.fourth, ones.first, ones.second, ones.third, ones.fourth, blanks.first, blanks.second, blanks.third, blanks.fourth))

@@ -74,8 +74,8 @@ unfolding start_number
 start_accepted n own proposal e =
     let a = passes 1 _ _ (λ z. omega arith) e in
     let b = passes 2 _ _ (λ z. omega arith) a.1 in
-    let own-low = borrow.Author.Tests.ltb-true own n (not-false (ltb own n) (or_right_false (not_heads n) (not (ltb own n)) a.0)) in
-    (heads n (or_left_false (not_heads n) _ a.0), own-low, omega (arith, ltb-false 1 proposal b.0))
+    let own_low = borrow.Author.Tests.ltb-true own n (not-false (ltb own n) (or_right_false (not_heads n) (not (ltb own n)) a.0)) in
+    (heads n (or_left_false (not_heads n) _ a.0), own_low, omega (arith, ltb-false 1 proposal b.0))
 
 pub record ReadsWell (n : ℕ) (bytes : List ℕ) : Type 0 where
   pub heads : Heads n

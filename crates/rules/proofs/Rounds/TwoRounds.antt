@@ -76,8 +76,8 @@ pub two_rounds_decide : (vote : Vote) → Proper vote
     → (bit : ℕ) → bit < 2 → vote.n < count vote.n (λ s. eqb (vote.proposal s) bit) * 2
     → (first second : Channel) → LosesNothing vote first → LosesNothing vote second → CoinsAreBits vote first → CoinsAreBits vote second
     → EveryHeadDecides vote (round vote (round vote [] first) second) bit
-two_rounds_decide vote proper bit low most one two lossless-one lossless-two ones twos s h =
-    ap (λ (k : Head). k.decision) (lossless_round after two lossless-two twos s h).1
+two_rounds_decide vote proper bit low most one two lossless_one lossless_two ones twos s h =
+    ap (λ (k : Head). k.decision) (lossless_round after two lossless_two twos s h).1
     ∙ second_step vote.n s v (two.coin s) proper.heads.0 proper.heads.1 bit_value
   where
     v : Value
@@ -121,5 +121,5 @@ two_rounds_decide vote proper bit low most one two lossless-one lossless-two one
                 rules = λ t b. phase_2 refl (omega (arith, value_code_back bit (omega arith))) refl;
                 even = λ o t u b c p q. let z : ◌≡◌ {A = ℕ} 0 1 = cc in omega arith;
               };
-          states = λ t b. (lossless_round start one lossless-one ones t b).1 ∙ first_step vote.n t proposed v (one.coin t) proper.heads.1 bit_value over_half_lem;
+          states = λ t b. (lossless_round start one lossless_one ones t b).1 ∙ first_step vote.n t proposed v (one.coin t) proper.heads.1 bit_value over_half_lem;
         }

@@ -181,10 +181,10 @@ module _ (vote : Vote) (events : List Event) (e : Event) (K : Kept vote events) 
   -- a statement on the head after step 3, stepped or not
   either_way : (P : Head → Type 0) → (quorum all ≡ true → P (risen all e.coin)) → (quorum all ≡ false → P all) → P end
   unfolding stepped
-  either_way P yes-step no_step = go (quorum all) refl
+  either_way P yes_step no_step = go (quorum all) refl
     where
       go : (t : Bool) → quorum all ≡ t → P (cond t (risen all e.coin) all)
-      go true q = yes-step q
+      go true q = yes_step q
       go false q = no_step q
 
   same : (end.n ≡ vote.n) × (end.own ≡ e.head) × (end.decision ≡ old.decision)
