@@ -1,4 +1,4 @@
-use Rattle.std.specs.Prelude.{◌≡◌, ◌≤◌, ◌-◌, List, ◌++◌, length, replicate, drop}
+use Rattle.std.specs.Prelude.{◌≡◌, ◌≤◌, ◌-◌, ◌++◌, length, replicate, drop}
 use Rattle.vote.proofs.clear.Given as goal
 
 -- the bytes before `i` are zero, the others as they were lent
