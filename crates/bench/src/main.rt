@@ -1,60 +1,73 @@
 // The program: standard input, the proved report of it, standard output. Nothing is decided here but
 // what is said where one of the two fails: then a line on standard error, and no report of bytes that
 // were not read.
+#![tactic(auto)]
+
 ghost use Rattle.io.specs.Counts.{IsPrefixLen};
 
-use libc::{STDIN_FILENO, STDOUT_FILENO};
+use std::io::{Cursor, Error, Print, Read, Stdin, Write};
 
-// How many bytes were read; `failed` where a read failed before the input's end.
+// How many bytes were read; `failed` where a read failed before the input's end, and why.
 #[derive(Drop)]
 struct Input {
     length: usize,
-    failed: bool,
+    failed: Option<Error>,
 }
 
 // The buffer holds 65,536 bytes, and the first 41,002 of a file decide its report, whatever follows.
-fn main() {
-    let mut buffer = io::large_buffer();
-    let input = read_input(&mut buffer);
-    if input.failed {
-        os::fail(b"bench: standard input");
+fn main(rt: HostRuntime) {
+    let mut buffer = [0; 65536];
+    let input = read_input(rt.stdin(), &mut buffer);
+    if let Some(error) = input.failed {
+        fail(&rt.stderr(), b"bench: standard input", error);
         return;
     }
     let length = input.length;
-    print_report(&buffer[..length]);
+    print_report(&rt, &buffer[..length]);
 }
 
 // Reads to the input's end, as far as the buffer goes.
-fn read_input(buffer: &mut [u8]) -> Input
+fn read_input(mut stdin: Stdin, buffer: &mut [u8]) -> Input
     ensures { IsPrefixLen result.length buffer.new }
 {
     let mut done: usize = 0;
     while done < buffer.len() {
-        let rest = &mut buffer[done..];
-        let got = libc::read(STDIN_FILENO, rest);
-        if got < 0 {
-            return Input {
-                length: done,
-                failed: true,
-            };
+        match stdin.read(&mut buffer[done..]) {
+            Err(error) => {
+                return Input {
+                    length: done,
+                    failed: Some(error),
+                };
+            }
+            Ok(0) => break,
+            Ok(more) => done += more,
         }
-        let more = io::count(got, rest);
-        if more == 0 {
-            break;
-        }
-        done += more;
     }
     Input {
         length: done,
-        failed: false,
+        failed: None,
     }
 }
 
-fn print_report(file: &[u8]) {
+fn print_report(rt: &HostRuntime, file: &[u8]) {
     let text = run::report(file);
     let bytes = text.bytes;
     let length = text.length;
-    if !io::write_all(STDOUT_FILENO, &bytes[..length]) {
-        os::fail(b"bench: standard output");
+    if let Err(error) = rt.write_all(&bytes[..length]) {
+        fail(&rt.stderr(), b"bench: standard output", error);
     }
+}
+
+// Writes a line: what failed, a colon, and the system's words for the error. Its number, which std
+// writes after them in parentheses, is left out.
+fn fail(to: &impl Print, what: &[u8], error: Error) {
+    let mut text = Cursor::new([0; 256]);
+    let _ = write!(text, "{error}");
+    let text = text.into_inner();
+    let end = text.iter().position(|c| *c == b'(' || *c == 0);
+    let words = text[..end.unwrap_or(text.len())].trim_ascii_end();
+    let _ = to.write_all(what);
+    let _ = to.write_all(b": ");
+    let _ = to.write_all(words);
+    let _ = to.write_all(b"\n");
 }

@@ -11,42 +11,41 @@ use crate::number::number_at;
 use crate::print::{malformed, print_answer, print_indexed};
 use codes::{BALLOT_BYTES, RECORD_BYTES, ballot_bytes, head_at, is_record, record_of};
 use rules::Read;
+use std::io::{Print, Result};
 
 // Where the list of a tick begins: after the head and the coin.
 const LIST_START: usize = RECORD_BYTES + 4;
 
 // Calls what the letter stands for and prints the answer. `lent` is the same bytes a second time.
-pub(crate) fn answer(letter: u8, bytes: &[u8], lent: &mut [u8]) {
+pub(crate) fn answer(out: &impl Print, letter: u8, bytes: &[u8], lent: &mut [u8]) -> Result<()> {
     match letter {
-        b'R' => answer_read(bytes),
-        b'S' => answer_start(bytes),
-        b'T' => answer_tick(bytes),
-        b'B' => answer_send(bytes),
-        b's' => answer_vote_start(bytes, lent),
-        b't' => answer_vote_tick(bytes, lent),
-        b'b' => answer_vote_ballot(bytes, lent),
-        _ => malformed(letter),
+        b'R' => answer_read(out, bytes),
+        b'S' => answer_start(out, bytes),
+        b'T' => answer_tick(out, bytes),
+        b'B' => answer_send(out, bytes),
+        b's' => answer_vote_start(out, bytes, lent),
+        b't' => answer_vote_tick(out, bytes, lent),
+        b'b' => answer_vote_ballot(out, bytes, lent),
+        _ => malformed(out, letter),
     }
 }
 
-fn answer_read(bytes: &[u8]) {
+fn answer_read(out: &impl Print, bytes: &[u8]) -> Result<()> {
     if bytes.len() < 4 {
-        malformed(b'R');
-        return;
+        return malformed(out, b'R');
     }
     let read = engine::read(number_at(bytes, 0), &bytes[4..]);
     match read {
-        Read::Accepted(ballot) => print_indexed(b'R', 0, 0, &ballot_bytes(ballot)),
+        Read::Accepted(ballot) => print_indexed(out, b'R', 0, 0, &ballot_bytes(ballot)),
         Read::Refused { number, index } => {
-            print_indexed(b'R', number as u32, index, &[0; BALLOT_BYTES])
+            print_indexed(out, b'R', number as u32, index, &[0; BALLOT_BYTES])
         }
     }
 }
 
-fn answer_start(bytes: &[u8]) {
+fn answer_start(out: &impl Print, bytes: &[u8]) -> Result<()> {
     if bytes.len() != 12 {
-        malformed(b'S');
-        return;
+        return malformed(out, b'S');
     }
     let started = engine::start(
         number_at(bytes, 0),
@@ -54,37 +53,41 @@ fn answer_start(bytes: &[u8]) {
         number_at(bytes, 8),
     );
     let head = started.head;
-    print_answer(b'S', started.number as u32, &record_of(head));
+    print_answer(out, b'S', started.number as u32, &record_of(head))
 }
 
-fn answer_tick(bytes: &[u8]) {
+fn answer_tick(out: &impl Print, bytes: &[u8]) -> Result<()> {
     if bytes.len() < LIST_START {
-        malformed(b'T');
-        return;
+        return malformed(out, b'T');
     }
     tick_head(
+        out,
         &bytes[0..RECORD_BYTES],
         &bytes[LIST_START..],
         number_at(bytes, RECORD_BYTES),
-    );
+    )
 }
 
-fn answer_send(bytes: &[u8]) {
+fn answer_send(out: &impl Print, bytes: &[u8]) -> Result<()> {
     if !is_record(bytes) {
-        malformed(b'B');
-        return;
+        return malformed(out, b'B');
     }
     let written = engine::send(head_at(bytes));
     let five = written.bytes;
-    print_answer(b'B', written.number as u32, &five);
+    print_answer(out, b'B', written.number as u32, &five)
 }
 
-fn tick_head(head_record: &[u8], list: &[u8], coin: u32) {
+fn tick_head(out: &impl Print, head_record: &[u8], list: &[u8], coin: u32) -> Result<()> {
     if !is_record(head_record) {
-        malformed(b'T');
-        return;
+        return malformed(out, b'T');
     }
     let ticked = engine::tick(head_at(head_record), list, coin);
     let head = ticked.head;
-    print_indexed(b'T', ticked.number as u32, ticked.index, &record_of(head));
+    print_indexed(
+        out,
+        b'T',
+        ticked.number as u32,
+        ticked.index,
+        &record_of(head),
+    )
 }

@@ -9,64 +9,68 @@
 // that no contract has to say that they are the same.
 use crate::number::{byte_at, number_at};
 use crate::print::{malformed, print_answer, print_indexed};
+use std::io::{Print, Result};
 
-pub(crate) fn answer_vote_start(bytes: &[u8], lent: &mut [u8]) {
+pub(crate) fn answer_vote_start(out: &impl Print, bytes: &[u8], lent: &mut [u8]) -> Result<()> {
     if lent.len() < 12 {
-        malformed(b's');
-        return;
+        return malformed(out, b's');
     }
     start_record(
+        out,
         &mut lent[12..],
         number_at(bytes, 0),
         number_at(bytes, 4),
         number_at(bytes, 8),
-    );
+    )
 }
 
-pub(crate) fn answer_vote_tick(bytes: &[u8], lent: &mut [u8]) {
+pub(crate) fn answer_vote_tick(out: &impl Print, bytes: &[u8], lent: &mut [u8]) -> Result<()> {
     let record_end = 1 + byte_at(bytes, 0) as usize;
     let list_start = record_end + 4;
     if bytes.len() < list_start {
-        malformed(b't');
-        return;
+        return malformed(out, b't');
     }
     if lent.len() < record_end {
-        malformed(b't');
-        return;
+        return malformed(out, b't');
     }
     tick_record(
+        out,
         &mut lent[1..record_end],
         &bytes[list_start..],
         number_at(bytes, record_end),
-    );
+    )
 }
 
-pub(crate) fn answer_vote_ballot(bytes: &[u8], lent: &mut [u8]) {
+pub(crate) fn answer_vote_ballot(out: &impl Print, bytes: &[u8], lent: &mut [u8]) -> Result<()> {
     let record_end = 1 + byte_at(bytes, 0) as usize;
     if bytes.len() < record_end {
-        malformed(b'b');
-        return;
+        return malformed(out, b'b');
     }
     if lent.len() < record_end {
-        malformed(b'b');
-        return;
+        return malformed(out, b'b');
     }
-    write_ballot(&bytes[1..record_end], &mut lent[record_end..]);
+    write_ballot(out, &bytes[1..record_end], &mut lent[record_end..])
 }
 
-fn start_record(head_record: &mut [u8], n: u32, own: u32, proposal: u32) {
+fn start_record(
+    out: &impl Print,
+    head_record: &mut [u8],
+    n: u32,
+    own: u32,
+    proposal: u32,
+) -> Result<()> {
     let number = vote::vote_start(head_record, n, own, proposal);
-    print_answer(b's', number, head_record);
+    print_answer(out, b's', number, head_record)
 }
 
 // The index is lent with all bits set, so that a call that leaves it alone shows.
-fn tick_record(head_record: &mut [u8], list: &[u8], coin: u32) {
+fn tick_record(out: &impl Print, head_record: &mut [u8], list: &[u8], coin: u32) -> Result<()> {
     let mut index: usize = 18446744073709551615;
     let number = vote::vote_tick(head_record, list, coin, &mut index);
-    print_indexed(b't', number, index, head_record);
+    print_indexed(out, b't', number, index, head_record)
 }
 
-fn write_ballot(head_record: &[u8], buffer: &mut [u8]) {
+fn write_ballot(out: &impl Print, head_record: &[u8], buffer: &mut [u8]) -> Result<()> {
     let number = vote::vote_ballot(head_record, buffer);
-    print_answer(b'b', number, buffer);
+    print_answer(out, b'b', number, buffer)
 }

@@ -3,6 +3,8 @@
 //
 // A line is a letter and hex digits; `answer` and `entry` say which call a letter stands for and
 // what its bytes are. A line that begins with '#' is a comment.
+#![tactic(auto)]
+
 mod answer;
 mod entry;
 mod hex;
@@ -10,20 +12,39 @@ mod line;
 mod number;
 mod print;
 
-use libc::STDIN_FILENO;
+ghost use Rattle.std.specs.Prelude.{◌≤◌, length};
 
-fn main() {
+use std::io::{Print, Read, Result, Stdin};
+
+fn main(rt: HostRuntime) -> Result<()> {
     // More than any file of vectors has. What is past it has no answers, which shows.
     let mut file = [0u8; 131072];
-    let count = io::read_full(STDIN_FILENO, &mut file);
-    answer_lines(&file[..count]);
+    let count = read_full(rt.stdin(), &mut file);
+    answer_lines(&rt, &file[..count])
 }
 
-fn answer_lines(text: &[u8]) {
+// Reads until the buffer is full, the input ends or a read fails, and gives the number of bytes.
+fn read_full(mut stdin: Stdin, buffer: &mut [u8]) -> usize
+    ensures { result ≤ length buffer.new }
+{
+    let mut done: usize = 0;
+    while done < buffer.len() {
+        match stdin.read(&mut buffer[done..]) {
+            Ok(0) | Err(_) => break,
+            Ok(more) => done += more,
+        }
+    }
+    done
+}
+
+fn answer_lines(out: &impl Print, text: &[u8]) -> Result<()> {
     let mut at: usize = 0;
     while at < text.len() {
-        let end = bytes::scan::find(text, at, text.len(), b'\n');
-        line::answer_line(&text[at..end]);
-        at = end + 1;
+        let rest = &text[at..];
+        let end = rest.iter().position(|c| *c == b'\n');
+        let length = end.unwrap_or(rest.len());
+        line::answer_line(out, &rest[..length])?;
+        at += length + 1;
     }
+    Ok(())
 }

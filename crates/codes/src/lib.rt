@@ -3,6 +3,8 @@
 //
 // Nothing has a `requires`: every input has its answer, and each promise cites the definition of
 // crate `rules` that gives it.
+#![tactic(auto)]
+
 mod ballots;
 mod code;
 mod numbers;

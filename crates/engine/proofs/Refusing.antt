@@ -20,7 +20,7 @@ use Rattle.rules.specs.Below.{first, some}
 use Rattle.rules.specs.Ballot.{value_code, value_of, status_code, status_of, ballot_at, phase_at, class_of, obeys, breaks_rule}
 use Rattle.rules.specs.Heard.{member}
 use Rattle.rules.specs.Tick.{same_state, differ, own_otherwise, held_otherwise, contradicts}
-use Rattle.rules.proofs.Counting.Truth.{Means, never, false_not, not-false as means-false, not_not, means_same, means_as, means_and, means_not, means_eq, and_left, and_right, and_never, or_left_false, or_right_false, or_never}
+use Rattle.rules.proofs.Counting.Truth.{Means, never, false_not, not_false as means_false, not_not, means_same, means_as, means_and, means_not, means_eq, and_left, and_right, and_never, or_left_false, or_right_false, or_never}
 use Rattle.rules.proofs.Counting.Below.{NoneBefore, first_le, first_before, first_holds, some_not, not_some, means_some}
 use Rattle.rules.proofs.Counting.Sets.{member_set_of}
 use Rattle.rules.proofs.Meaning.Meanings.{value_back, status_back}
@@ -196,14 +196,14 @@ module _ (h : Head) (l : List ℕ) (i : ℕ) where
       → member (ballot_at l i).sender elsewhere ≡ false → earlier ≡ false
   not_earlier elsewhere f e known absent =
       some_not i (λ j. differ (ballot_at l j) (ballot_at l i))
-      (λ j b. means-false (means_differ (ballot_at l j) (ballot_at l i)) (λ r. never (sym absent ∙ ap (λ (s : ℕ). member s elsewhere) (sym r.0.1) ∙ known j b r.0.0 (omega (arith, low_sender h.n l i e, f.0, r.0.1)))))
+      (λ j b. means_false (means_differ (ballot_at l j) (ballot_at l i)) (λ r. never (sym absent ∙ ap (λ (s : ℕ). member s elsewhere) (sym r.0.1) ∙ known j b r.0.0 (omega (arith, low_sender h.n l i e, f.0, r.0.1)))))
 
   -- from ahead
   pub refused_ahead : highest h l i < (ballot_at l i).phase
       → breaks_rule h.n l i || eqb (ballot_at l i).sender h.own ≡ refused h l i
   unfolding refused contradicts own_otherwise held_otherwise
   refused_ahead above =
-      let apart : earlier ≡ false = some_not i (λ j. differ (ballot_at l j) (ballot_at l i)) (λ j b. means-false (means_differ (ballot_at l j) (ballot_at l i)) (λ r. absurd (omega (arith, highest_most h l i j b, r.0.0)))) in
+      let apart : earlier ≡ false = some_not i (λ j. differ (ballot_at l j) (ballot_at l i)) (λ j b. means_false (means_differ (ballot_at l j) (ballot_at l i)) (λ r. absurd (omega (arith, highest_most h l i j b, r.0.0)))) in
       let higher : ltb h.phase (ballot_at l i).phase ≡ true = lt-ltb h.phase (ballot_at l i).phase (omega (arith, highest_least h l i)) in
       let away : eqb (ballot_at l i).phase h.phase ≡ false = ne_eqb (ballot_at l i).phase h.phase (λ q. omega (arith, highest_least h l i)) in
       ap (λ (t : Bool). breaks_rule h.n l i || t) (sym (pick (eqb (ballot_at l i).sender h.own))) ∙ simp (apart, higher, away)

@@ -12,9 +12,9 @@ use rules::{Class, Read};
 
 // Reads one ballot of a vote of n heads.
 pub fn read(n: u32, bytes: &[u8]) -> Read
-    ensures result_value { number_read result ≡ read_number n bytes.now }
-    ensures result_value_2 { index_read result ≡ read_index n bytes.now }
-    ensures result_value_3 { ballot_read result ≡ read_ballot n bytes.now }
+    ensures number { number_read result ≡ read_number n bytes.now }
+    ensures index { index_read result ≡ read_index n bytes.now }
+    ensures ballot { ballot_read result ≡ read_ballot n bytes.now }
 {
     if not_heads(n) {
         return refusal(1);

@@ -2,6 +2,8 @@
 //
 // Nothing has a `requires`: every input has its answer, and each promise cites the definition of
 // crate `rules` that gives it.
+#![tactic(auto)]
+
 mod ballot;
 mod head;
 mod heard;

@@ -19,7 +19,7 @@ use rules::{Ballot, Head};
 // What the first `next` ballots say, none of them refused. `phase`: the highest, the head's own
 // among them. Of the ballots of that phase: `listed`, who sent one, and, by value and status, who
 // said it. `elsewhere`: who sent one of a lower phase.
-#[derive(Drop)]
+#[derive(Clone, Copy)]
 pub struct Look {
     pub next: usize,
     pub phase: u16,

@@ -28,7 +28,7 @@ use Rattle.rules.specs.Algorithm.{Process, line8, lines9to13, at_phase_with}
 use Rattle.rules.specs.History.{Handed, head_after, ballots_in, process_after, Shows}
 use Rattle.rules.specs.Run.{Vote, Event, head_in, record_in, Sent, Run, NotRefusedBeforeTheLastPhase, EveryHeadDecides}
 use Rattle.rules.specs.Round.{Channel, round, LosesNothing}
-use Rattle.rules.specs.Sixteen.{start, head, sixteen}
+use Rattle.rules.specs.Sixteen.{start, sixteen}
 use Rattle.rules.proofs.Counting.Truth.{never}
 use Rattle.rules.proofs.Computed.Computing.{computing}
 use Rattle.rules.proofs.Meaning.Given.{passed_over, applies, given_applies}

@@ -1,5 +1,3 @@
-pub mod Again
-pub mod Calling
 pub mod Checking
 pub mod Only
 pub mod Parts
@@ -9,4 +7,3 @@ pub mod Received
 pub mod Reports
 pub mod Surveyed
 pub mod Texts
-pub mod Walking

@@ -1,8 +1,7 @@
 -- No second answer fits: two answers, and two later contents of what was lent, that both meet a public function's
--- promise are equal. For `report` this is stated over the promise itself, as the function carries it. For the two
--- walked functions, `bench` and `run_file`, over what `bench-says` and `run-file-says` read off their promises. In
--- `Post κs a r s`, `κs` are lifetimes, `a` is what the function is handed, `r` its answer and `s` what it leaves in
--- what it was lent.
+-- promise are equal. Stated over the promises themselves, as the functions carry them; for `bench` and `run_file` also
+-- over what `bench_says` and `run_file_says` read off their promises. In `Post κs a r s`, `κs` are lifetimes, `a` is what
+-- the function is handed, `r` its answer and `s` what it leaves in what it was lent.
 use mathlib.Core.Path.{◌≡◌, refl}
 use Prim.Native.Nat.{ℕ}
 use mathlib.Core.List.{List}
@@ -20,8 +19,10 @@ use Rattle.file.specs.Table.{table_after}
 use Rattle.file.specs.Figures.{outcome_of}
 use Rattle.file.specs.Benched.{benched_of}
 use Rattle.run.proofs.printed.report.Reads as report
+use Rattle.run.proofs.table.bench.Reads as bench_reads
+use Rattle.run.proofs.table.run_file.Reads as run_file_reads
 use Rattle.run.specs.contracts.table.bench as bench
-use Rattle.run.specs.contracts.table.run_file as run-file
+use Rattle.run.specs.contracts.table.run_file as run_file
 
 pub report_only : (κs : _) (a : _) (r r' : _) (s s' : _) → report.Post κs a r s → report.Post κs a r' s' → r ≡ r'
 report_only κs a r r' s s' p q = only p q
@@ -33,17 +34,24 @@ BenchSays file table answer after = (answer ≡ outcome_of file table) × (after
 abbrev pub RunFileSays : List ℕ → Benched → Type 0
 RunFileSays file answer = answer ≡ benched_of file
 
--- the two are walked by hand, so their promises are read off here: they say just that
+-- their promises are read off here: they say just that
 module _ {M : Type 1} {𝓤 : Ura M} (𝓛 : Logic 𝓤) (mem : Memory → SProp 𝓤) (run : Routine → Fun 𝓤) where
   pub bench_says : (κs : _) (a : _) (r : _) (s : _) → (bench.clauses 𝓛 mem run κs a).ensures tt r s
       ≡ sep 𝓤 (fact 𝓤 (r ≡ outcome_of a.0.now a.1.0.now)) (fact 𝓤 (s.1.0.now ≡ table_after a.0.now a.1.0.now))
   bench_says κs a r s = refl
 
-  pub run_file_says : (κs : _) (a : _) (r : _) (s : _) → (run-file.clauses 𝓛 mem run κs a).ensures tt r s ≡ fact 𝓤 (RunFileSays a.0.now r)
+  pub run_file_says : (κs : _) (a : _) (r : _) (s : _) → (run_file.clauses 𝓛 mem run κs a).ensures tt r s ≡ fact 𝓤 (RunFileSays a.0.now r)
   run_file_says κs a r s = refl
 
 pub bench_only : (file : List ℕ) (table : List Head) (r r' : Outcome) (t t' : List Head) → BenchSays file table r t → BenchSays file table r' t' → (r ≡ r') × (t ≡ t')
 bench_only file table r r' t t' p q = (only p.0 q.0, only p.1 q.1)
 
+pub bench_post_only : (κs : _) (a : _) (r r' : _) (s s' : _) → bench_reads.Post κs a r s → bench_reads.Post κs a r' s'
+    → (r ≡ r') × (s.1.0.now ≡ s'.1.0.now)
+bench_post_only κs a r r' s s' p q = bench_only a.0.now a.1.0.now r r' s.1.0.now s'.1.0.now p q
+
 pub run_file_only : (file : List ℕ) (r r' : Benched) → RunFileSays file r → RunFileSays file r' → r ≡ r'
 run_file_only file r r' p q = only p q
+
+pub run_file_post_only : (κs : _) (a : _) (r r' : _) (s s' : _) → run_file_reads.Post κs a r s → run_file_reads.Post κs a r' s' → r ≡ r'
+run_file_post_only κs a r r' s s' p q = run_file_only a.0.now r r' p q

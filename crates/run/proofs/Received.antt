@@ -189,10 +189,3 @@ one_kept ballots list after five lost n left left' k k' at small kept less five_
               | yes l ↦ rw (lt-leb k s l, lt-leb (suc k) s (omega (arith, l))) refl
               | no l ↦ rw (le-leb k s (omega (arith, l)), le-leb (suc k) s (omega (arith, l, e))) refl
             ])
-
--- after the last
-pub all_kept : (ballots list : List ℕ) (lost n left k at : ℕ) → Kept ballots lost n list left k at → n ≤ k
-    → (at ≤ n * 5) × (length list ≡ 160) × (take at list ≡ received_from ballots lost n)
-all_kept ballots list lost n left k at kept over =
-    let end : min k n ≡ n = omega arith in
-    (omega (arith, kept.0, end), kept.1, kept.2 ∙ ap (received_from ballots lost) end)

@@ -62,7 +62,7 @@ counted file at breaks size =
     (cond breaks (Refused 13 at)
     (cond (ltb (length file) (at + 2 + size)) (Refused 12 (length file)) (Body (at + 2) size)))
 
--- and by its bytes; `sectionAt` is both
+-- and by its bytes; `section_at` is both
 unfoldable pub checked : List ℕ → ℕ → (List ℕ → ℕ → Bool) → Section → Section
 checked file width breaks (Refused number place) = Refused number place
 checked file width breaks (Body start size) =

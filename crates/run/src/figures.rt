@@ -31,7 +31,7 @@ pub(crate) fn outcome(file: &[u8], plan: Plan, last: Survey) -> Outcome
 // "A round is good if its lost ballots, of n × n, are at most" the bound.
 fn good(file: &[u8], plan: Plan, most: usize) -> usize
     requires small { Small plan }
-    requires most_value { most ≡ bound_of plan.n plan.needed }
+    requires most_is_bound { most ≡ bound_of plan.n plan.needed }
     ensures { result ≡ good_in file.now plan plan.rounds }
 {
     let n = plan.n;

@@ -17,7 +17,7 @@ const ROUND_BYTES: usize = HEADS_MOST as usize * BALLOT_BYTES;
 
 // What the heads show before a round: their ballots, five bytes each in sender order, and how many of
 // them have a written decision.
-#[derive(Drop)]
+#[derive(Clone, Copy)]
 pub struct Survey {
     pub ballots: [u8; ROUND_BYTES],
     pub decided: usize,

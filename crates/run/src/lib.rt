@@ -2,6 +2,8 @@
 //
 // Nothing public has a `requires`: every file has its answer, and each promise cites the definition
 // of crate `file` that gives it.
+#![tactic(auto)]
+
 mod figures;
 mod heads;
 mod lines;

@@ -45,7 +45,7 @@ pub(crate) fn head_lines(text: Text, heads: [Head; 32], n: usize) -> Text
     requires n_bound { n ≤ 32 }
     requires held { Held text }
     ensures value { result ≡ with_word text (head_lines n heads) }
-    ensures held_2 { Held result }
+    ensures held { Held result }
 {
     let mut lines = text;
     let mut s = 0;

@@ -54,8 +54,8 @@ pub(crate) fn coins_of<'a>(file: &'a [u8], plan: Plan, r: usize) -> &'a [u8]
 fn after_proposals(file: &[u8], room: usize, at: usize, known: Plan) -> Plan
     requires at_le_second_most { at ≤ second_most }
     requires n_le_heads_most { known.n ≤ heads_most }
-    requires number_value { known.number ≡ 0 }
-    requires place_value { known.place ≡ 0 }
+    requires number_zero { known.number ≡ 0 }
+    requires place_zero { known.place ≡ 0 }
     ensures { result ≡ after_proposals file.now room at known.n }
 {
     let section = needed(file, at, known.n);
@@ -72,8 +72,8 @@ fn after_proposals(file: &[u8], room: usize, at: usize, known: Plan) -> Plan
 fn after_needed(file: &[u8], room: usize, at: usize, known: Plan) -> Plan
     requires at_le_third_most { at ≤ third_most }
     requires n_le_heads_most { known.n ≤ heads_most }
-    requires number_value { known.number ≡ 0 }
-    requires place_value { known.place ≡ 0 }
+    requires number_zero { known.number ≡ 0 }
+    requires place_zero { known.place ≡ 0 }
     ensures { result ≡ after_needed file.now room at known.n known.needed }
 {
     let section = losses(file, at, known.n);
@@ -91,8 +91,8 @@ fn after_losses(file: &[u8], room: usize, at: usize, known: Plan) -> Plan
     requires at_le_fourth_most { at ≤ fourth_most }
     requires n_le_heads_most { known.n ≤ heads_most }
     requires rounds_le_rounds_most { known.rounds ≤ rounds_most }
-    requires number_value { known.number ≡ 0 }
-    requires place_value { known.place ≡ 0 }
+    requires number_zero { known.number ≡ 0 }
+    requires place_zero { known.place ≡ 0 }
     ensures { result ≡ after_losses file.now room at
         known.n known.needed known.rounds known.losses }
 {

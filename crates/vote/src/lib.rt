@@ -1,5 +1,7 @@
-// The entries for C, on records of 20 bytes, around the engine by value. Nothing else of the library
-// is exported.
+// The entries for C, on records of 20 bytes, around the engine by value. `vote_c` exports them;
+// nothing else of the library is public.
+#![tactic(auto)]
+
 ghost use Rattle.std.specs.Prelude.{◌≡◌, length, replicate};
 ghost use Rattle.rules.specs.Sizes.{record_bytes};
 ghost use Rattle.rules.specs.Record.{record_of, start_number_from_c, record_after_start};
@@ -11,8 +13,7 @@ use engine::{send, start, tick};
 use rules::Head;
 
 // Starts a head with its proposal, in a record of any former contents; the number is given back.
-#[unsafe(no_mangle)]
-pub extern "C" fn vote_start(head_record: &mut [u8], n: u32, own: u32, proposal: u32) -> u32
+pub fn vote_start(head_record: &mut [u8], n: u32, own: u32, proposal: u32) -> u32
     ensures value { result ≡ start_number_from_c head_record.old n own proposal }
     ensures head_record_after { head_record.new ≡ record_after_start head_record.old n own proposal }
 {
@@ -30,13 +31,7 @@ pub extern "C" fn vote_start(head_record: &mut [u8], n: u32, own: u32, proposal:
 
 // Ticks the record's head with a list of ballots and a coin; the number is given back, and the index of
 // the first offending ballot is written.
-#[unsafe(no_mangle)]
-pub extern "C" fn vote_tick(
-    head_record: &mut [u8],
-    ballots: &[u8],
-    coin: u32,
-    index: &mut usize,
-) -> u32
+pub fn vote_tick(head_record: &mut [u8], ballots: &[u8], coin: u32, index: &mut usize) -> u32
     ensures value { result ≡ tick_number_from_c head_record.old ballots.now coin }
     ensures head_record_after { head_record.new ≡ record_after_tick head_record.old ballots.now coin }
     ensures index_after { index.new ≡ tick_index_from_c head_record.old ballots.now coin }
@@ -56,8 +51,7 @@ pub extern "C" fn vote_tick(
 }
 
 // Writes the ballot of the record's head into a buffer of five bytes; the number is given back.
-#[unsafe(no_mangle)]
-pub extern "C" fn vote_ballot(head_record: &[u8], ballot: &mut [u8]) -> u32
+pub fn vote_ballot(head_record: &[u8], ballot: &mut [u8]) -> u32
     ensures value { result ≡ send_number_from_c head_record.now ballot.old }
     ensures ballot_after { ballot.new ≡ buffer_after_send head_record.now ballot.old }
 {
@@ -75,7 +69,7 @@ pub extern "C" fn vote_ballot(head_record: &[u8], ballot: &mut [u8]) -> u32
         return 5;
     }
     let five = written.bytes;
-    bytes::copy(&five, ballot);
+    ballot.copy_from_slice(&five);
     0
 }
 
@@ -85,7 +79,7 @@ fn store(head_record: &mut [u8], head: Head)
     ensures { head_record.new ≡ record_of head }
 {
     let twenty = record_of(head);
-    bytes::copy(&twenty, head_record);
+    head_record.copy_from_slice(&twenty);
 }
 
 // Every byte zero.

@@ -58,8 +58,8 @@ holds1at3 = head 5 3 One u none 2
 
 -- a started head's record, with its bytes 4 to 7, value, status, decision and the zero byte, as said
 abbrev coded : ℕ → ℕ → ℕ → ℕ → List ℕ
-coded value status decision zero =
-    (3 ∷ 0 ∷ 0 ∷ 1 ∷ value ∷ status ∷ decision ∷ zero ∷ []) ++ replicate 12 0
+coded value status decision fourth =
+    (3 ∷ 0 ∷ 0 ∷ 1 ∷ value ∷ status ∷ decision ∷ fourth ∷ []) ++ replicate 12 0
 
 unfoldable pub starts_and_readings : List Numbered
 starts_and_readings =

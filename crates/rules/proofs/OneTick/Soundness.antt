@@ -17,7 +17,7 @@ use Rattle.rules.specs.declared.Head.{Head}
 use Rattle.rules.specs.Ballot.{value_code, value_of, status_code, ballot_at}
 use Rattle.rules.specs.Below.{count}
 use Rattle.rules.specs.Heard.{member, size, over_half, heard}
-use Rattle.rules.specs.Head.{decision_for, is_decided, fresh, sound, start_number, start_of}
+use Rattle.rules.specs.Head.{decision_for, is_decided, fresh, start_number, start_of}
 use Rattle.rules.specs.Tick.{ballots, moved, added, gathered, quorum, majority, step_value, step_status, risen, stepped, settled, tick_number, tick_of}
 use Rattle.rules.specs.Given.{Heads, Obeys, phase_1, phase_2, odd_from_3, even_from_4, Hears, Sound, DecidesOtherwise, Says, HeldOrSent}
 use Rattle.rules.proofs.Counting.Truth.{false_not, not_not}

@@ -14,7 +14,6 @@ use Rattle.rules.specs.declared.Decision.TheVariants.{Unwritten}
 use Rattle.rules.specs.declared.Ballot.{Ballot}
 use Rattle.rules.specs.declared.Head.{Head}
 use Rattle.rules.specs.Ballot.{value_of}
-use Rattle.rules.specs.Heard.{heard}
 use Rattle.rules.specs.Head.{decision_for, is_decided, fresh, ballot_of}
 use Rattle.rules.specs.Tick.{added, gathered, quorum, risen, stepped, settled, tick_number, tick_of}
 use Rattle.rules.specs.Given.{Hears, Sound, Quorum}

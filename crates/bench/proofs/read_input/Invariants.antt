@@ -1,0 +1,8 @@
+use Rattle.std.specs.Prelude.{◌≤◌, ◌-◌, ◌≡◌, length}
+use Rattle.bench.proofs.read_input.Given as goal
+
+abbrev pub invariant-loop-done : goal.invariant-loop-done
+invariant-loop-done l = (l.done ≤ length l.buffer) × (length l.buffer ≡ length l.initial.buffer)
+
+abbrev pub decreases-loop-done : goal.decreases-loop-done
+decreases-loop-done l = length l.buffer - l.done

@@ -1,0 +1,16 @@
+use native.Mathlib.Omega.{arith}
+use borrow.Author.Tests.{ne_eqb}
+use Rattle.rules.specs.Ballot.{value_of}
+use Rattle.codes.proofs.code.value_of.Goals as goal
+
+pub returns-in-0 : goal.returns-in-0
+unfolding value_of
+returns-in-0 c = simp c.in-0.is
+
+pub returns-in-1 : goal.returns-in-1
+unfolding value_of
+returns-in-1 c = simp c.in-1.is
+
+pub returns-in_default : goal.returns-in_default
+unfolding value_of
+returns-in_default c = simp (ne_eqb c.args.code 0 (omega arith), ne_eqb c.args.code 1 (omega arith))

@@ -1,0 +1,23 @@
+use Prim.Native.Nat.{ℕ, ◌+◌, ◌*◌}
+use mathlib.Core.Path.{refl, ap₂, ◌∙◌}
+use Rattle.rules.specs.Ballot.{value_of, status_of}
+use Rattle.engine.proofs.Looking.{five}
+use Rattle.engine.proofs.Barred.{barred_ahead, barred_here, not_zero, not_one, not_blank}
+use Rattle.engine.proofs.said.barred_from.Goals as goal
+
+pub returns-then-phase-head-clause-by_index : goal.returns-then-phase-head-clause-by_index
+returns-then-phase-head-clause-by_index c =
+    let each = barred_ahead _ _ _ c.alone-own.ensures c.requires.phase_le_phase c.if-phase-head.true in
+    five _ (each 0) (each 1) (each 2) (each 3) (each 4)
+
+pub returns-clause-by_index : goal.returns-clause-by_index
+unfolding value_of status_of
+returns-clause-by_index c =
+    let here = c.if-phase-head.false in
+    let codes = c.code_of-code.ensures ∙ ap₂ (λ (v t : ℕ). v * 2 + t) c.value_code.ensures c.status_code.ensures in
+    five _
+    (c.either.ensures ∙ barred_here _ _ 0 _ _ _ _ _ c.alone-own.ensures here codes c.unless.ensures refl (not_zero _))
+    (c.either-2.ensures ∙ barred_here _ _ 1 _ _ _ _ _ c.alone-own.ensures here codes c.unless-2.ensures refl (not_zero _))
+    (c.either-3.ensures ∙ barred_here _ _ 2 _ _ _ _ _ c.alone-own.ensures here codes c.unless-3.ensures refl (not_one _))
+    (c.either-4.ensures ∙ barred_here _ _ 3 _ _ _ _ _ c.alone-own.ensures here codes c.unless-4.ensures refl (not_one _))
+    (c.either-5.ensures ∙ barred_here _ _ 4 _ _ _ _ _ c.alone-own.ensures here codes c.unless-5.ensures refl (not_blank _))

@@ -1,0 +1,6 @@
+use Rattle.rules.specs.Tick.{settled}
+use Rattle.engine.proofs.step.settled.Goals as goal
+
+pub returns : goal.returns
+unfolding settled
+returns c = simp (c.stated.ensures, c.settled_decision.ensures)

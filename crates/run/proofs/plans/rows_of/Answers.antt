@@ -1,0 +1,13 @@
+use Rattle.std.proofs.Common.{ℕ, ◌*◌, List, take, drop, ap, ◌∙◌, arith}
+use Rattle.run.proofs.Parts.{part_of_part, round_inside}
+use Rattle.run.proofs.plans.rows_of.Goals as goal
+
+pub returns : goal.returns
+returns c =
+    let file = c.args.file.now in
+    let plan = c.args.plan in
+    let r = c.args.r in
+    c.part.ensures
+    ∙ ap (λ (l : List ℕ). take (plan.n * 4) (drop (r * plan.n * 4) l)) c.part-losses.ensures
+    ∙ part_of_part file plan.losses (plan.rounds * plan.n * 4) (r * plan.n * 4) (plan.n * 4)
+    (omega (arith, round_inside r plan.rounds plan.n c.requires.r_lt_rounds))
