@@ -3,9 +3,10 @@
  *
  *   programs RUNS OURS C EMPTY FILE..
  *
- * A program is run with a file as its standard input, and what it prints thrown away. What counts is the processor's time, its own and the system's for it, since
- * that of the clock has other programs' time in it. EMPTY is an empty file: what a program takes on
- * it is its start, and each other figure is given whole and without it.
+ * A program is run with a file as its standard input, and what it prints thrown away. What counts is
+ * the processor's time, its own and the system's for it, since that of the clock has other programs'
+ * time in it. EMPTY is an empty file: what a program takes on it is its start, and each other figure
+ * is given whole and without it.
  */
 #include "median.h"
 

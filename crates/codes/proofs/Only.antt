@@ -9,7 +9,7 @@ use Rattle.codes.proofs.numbers.phase_of.Reads as phase_of
 use Rattle.codes.proofs.code.status_code.Reads as status_code
 use Rattle.codes.proofs.code.status_of.Reads as status_of
 use Rattle.codes.proofs.code.value_code.Reads as value_code
-use Rattle.codes.proofs.code.value_of.Reads as value_of_lem
+use Rattle.codes.proofs.code.value_of.Reads as value_of
 use Rattle.codes.proofs.numbers.four_bytes_of.Reads as four_bytes_of
 use Rattle.codes.proofs.sets.member.Reads as member
 use Rattle.codes.proofs.sets.size.Reads as size
@@ -26,7 +26,7 @@ use Rattle.codes.proofs.records.zero_head.Reads as zero_head
 pub value_code_only : (κs : _) (a : _) (r r' : _) (s s' : _) → value_code.Post κs a r s → value_code.Post κs a r' s' → r ≡ r'
 value_code_only κs a r r' s s' p q = only p q
 
-pub value_of_only : (κs : _) (a : _) (r r' : _) (s s' : _) → value_of_lem.Post κs a r s → value_of_lem.Post κs a r' s' → r ≡ r'
+pub value_of_only : (κs : _) (a : _) (r r' : _) (s s' : _) → value_of.Post κs a r s → value_of.Post κs a r' s' → r ≡ r'
 value_of_only κs a r r' s s' p q = only p q
 
 pub status_code_only : (κs : _) (a : _) (r r' : _) (s s' : _) → status_code.Post κs a r s → status_code.Post κs a r' s' → r ≡ r'

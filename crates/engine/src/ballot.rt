@@ -48,7 +48,7 @@ pub(crate) fn breaks_rule(n: u32, ballots: &[u8], i: usize) -> bool
     !((wide(ballots[at + SENDER]) < n) & obeys(phase, ballots[at + VALUE], ballots[at + STATUS]))
 }
 
-// A function of its own: that a byte is below 256 is known of a parameter, not of a slice's element.
+// A function of its own: to an older toolchain a parameter's byte was below 256, not a slice's element.
 fn wide(byte: u8) -> u32
     ensures { result ≡ byte }
 {

@@ -154,8 +154,8 @@ fn fresh(n: u8, own: u8, proposal: u8) -> Head
     started
 }
 
-// The head with another value, status and decision. A field that is an enum is not written in place:
-// the toolchain does not cover it.
+// The head with another value, status and decision. An older toolchain did not cover a store to a field
+// that is an enum, so none is written in place.
 pub(crate) fn stated(head: Head, value: Value, status: Status, decision: Decision) -> Head
     ensures { result ≡ stated_of head value status decision }
 {

@@ -11,6 +11,6 @@ unfoldable pub ahead : Ballot → Ballot → Bool
 ahead a b = ltb b.phase a.phase || (eqb a.phase b.phase && ltb a.sender b.sender)
 
 -- the value 0 or 1 of which p holds, else other. Both never are where an accepted tick asks
--- (both-bits-are-never-there).
+-- (both_bits_are_never_there).
 unfoldable pub bit_with : (Value → Bool) → Value → Value
 bit_with p other = cond (p Zero) (cond (p One) other Zero) (cond (p One) One other)

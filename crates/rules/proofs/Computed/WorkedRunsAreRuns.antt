@@ -23,18 +23,18 @@ two_of_two_lem bit h = proper (two_of_two bit) (lit≤ tt, lit≤ tt) ((tt, h), 
 pub two_of_three_lem : (bit other : ℕ) → bit < 2 → other < 2 → Proper (two_of_three bit other)
 two_of_three_lem bit other h k = proper (two_of_three bit other) (lit≤ tt, lit≤ tt) (((tt, h), h), k)
 
--- the run of a-tick-is-accepted
+-- the run of a_tick_is_accepted
 pub accepted_run : Run (two_of_two 1) (last ∷ earlier)
 accepted_run = rounds_run (two_of_two 1) (two_of_two_lem 1 (lit< tt)) ([] ∷ [])
 
--- the run of two-halves-do-not-differ
+-- the run of two_halves_do_not_differ
 pub halves_run : Run halves (rounds halves alone)
 halves_run = rounds_run halves (proper halves (lit≤ tt, lit≤ tt) ((tt, lit< tt), lit< tt)) alone
 
--- the runs of a-decision-for-0-was-proposed and a-decision-for-1-was-proposed
+-- the runs of a_decision_for_0_was_proposed and a_decision_for_1_was_proposed
 pub proposed_run : (bit : ℕ) → bit < 2 → Run (two_of_two bit) (two_rounds (two_of_two bit))
 proposed_run bit h = rounds_run (two_of_two bit) (two_of_two_lem bit h) ([] ∷ [] ∷ [])
 
--- the run of a-decision-stays
+-- the run of a_decision_stays
 pub stays_run : Run (two_of_three 1 0) (later ++ decides)
 stays_run = rounds_run (two_of_three 1 0) (two_of_three_lem 1 0 (lit< tt) (lit< tt)) moving
