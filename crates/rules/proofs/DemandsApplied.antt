@@ -17,7 +17,7 @@ use Rattle.rules.specs.declared.Decision.{Decision}
 use Rattle.rules.specs.declared.Decision.TheVariants.{One as ForOne, Unwritten}
 use Rattle.rules.specs.declared.Ballot.{Ballot}
 use Rattle.rules.specs.declared.Head.{Head}
-use Rattle.rules.specs.declared.Ticked.{Ticked}
+use Rattle.rules.specs.Answer.{Ticked}
 use Rattle.rules.specs.Below.{count}
 use Rattle.rules.specs.Ballot.{ballot, bytes_of, encode, five_at, ballot_at, read_number, read_ballot}
 use Rattle.rules.specs.Head.{decision_code, zero_head, start_number, start_of, ballot_of, send_of}

@@ -2,3 +2,4 @@ pub mod Accepted
 pub mod Answers
 pub mod Given
 pub mod Meanings
+pub mod OneAnswer

@@ -1,6 +1,6 @@
 -- Ballots: their bytes, the ballot rules, reading one. Document 01, 'Heads and ballots'. These are tests; what they
 -- mean is in Given.
-use Rattle.std.specs.Prelude.{ℕ, ◌+◌, ◌*◌, ◌/◌, ◌%◌, ◌<◌, List, [], ◌∷◌, ◌++◌, Bool, false, cond, ◌&&◌, not, length, get_or, take, drop, ltb, leb, eqb}
+use Rattle.std.specs.Prelude.{ℕ, ◌+◌, ◌*◌, ◌/◌, ◌%◌, ◌<◌, List, [], Result, Ok, Err, ◌∷◌, ◌++◌, Bool, false, cond, ◌&&◌, not, length, get_or, take, drop, ltb, leb, eqb}
 use Rattle.rules.specs.declared.Value.{Value}
 use Rattle.rules.specs.declared.Value.TheVariants.{Zero, One, Blank}
 use Rattle.rules.specs.declared.Status.{Status}
@@ -8,8 +8,8 @@ use Rattle.rules.specs.declared.Status.TheVariants.{Undecided, Decided}
 use Rattle.rules.specs.declared.Class.{Class}
 use Rattle.rules.specs.declared.Class.TheVariants.{Never, First, Second, Odd, Even}
 use Rattle.rules.specs.declared.Ballot.{Ballot}
-use Rattle.rules.specs.declared.Read.{Read}
-use Rattle.rules.specs.declared.Read.TheVariants.{Accepted, Refused}
+use Rattle.rules.specs.declared.Refusal.{Refusal}
+use Rattle.rules.specs.Refusal.{number_of, index_of}
 use Rattle.rules.specs.Number.{◌when◌, first_that_applies}
 use Rattle.rules.specs.Sizes.{ballot_bytes, heads_least, heads_most}
 
@@ -110,14 +110,14 @@ abbrev pub read_index : ℕ → List ℕ → ℕ
 read_index n bytes = 0
 
 -- the number, the index and the ballot that each answer of the reader stands for
-abbrev pub number_read : Read → ℕ
-number_read (Accepted b) = 0
-number_read (Refused number index) = number
+abbrev pub number_read : Result Ballot Refusal → ℕ
+number_read (Ok b) = 0
+number_read (Err refusal) = number_of refusal
 
-abbrev pub index_read : Read → ℕ
-index_read (Accepted b) = 0
-index_read (Refused number index) = index
+abbrev pub index_read : Result Ballot Refusal → ℕ
+index_read (Ok b) = 0
+index_read (Err refusal) = index_of refusal
 
-abbrev pub ballot_read : Read → Ballot
-ballot_read (Accepted b) = b
-ballot_read (Refused number index) = zero_ballot
+abbrev pub ballot_read : Result Ballot Refusal → Ballot
+ballot_read (Ok b) = b
+ballot_read (Err refusal) = zero_ballot

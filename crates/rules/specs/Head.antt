@@ -1,6 +1,6 @@
 -- Heads: soundness, the start, and what a head sends. Document 01, 'Heads and ballots'. These are tests; what they mean
 -- is in Given.
-use Rattle.std.specs.Prelude.{ℕ, ◌%◌, List, [], ◌∷◌, Bool, cond, ◌&&◌, ◌||◌, not, replicate, ltb, leb, eqb}
+use Rattle.std.specs.Prelude.{ℕ, ◌%◌, List, [], Result, Ok, Err, ◌∷◌, Bool, cond, ◌&&◌, ◌||◌, not, replicate, ltb, leb, eqb}
 use Rattle.rules.specs.declared.Value.{Value}
 use Rattle.rules.specs.declared.Value.TheVariants.{Zero, One, Blank}
 use Rattle.rules.specs.declared.Status.{Status}
@@ -9,8 +9,9 @@ use Rattle.rules.specs.declared.Decision.{Decision}
 use Rattle.rules.specs.declared.Decision.TheVariants.{Zero as ForZero, One as ForOne, Unwritten}
 use Rattle.rules.specs.declared.Ballot.{Ballot}
 use Rattle.rules.specs.declared.Head.{Head}
-use Rattle.rules.specs.declared.Started.{Started}
-use Rattle.rules.specs.declared.Written.{Written}
+use Rattle.rules.specs.declared.Refusal.{Refusal}
+use Rattle.rules.specs.Answer.{Started, Written}
+use Rattle.rules.specs.Refusal.{number_of}
 use Rattle.rules.specs.Number.{Line, ◌when◌, first_that_applies}
 use Rattle.rules.specs.Ballot.{value_code, value_of, status_code, same_value, ballot, bytes_of, obeys, not_heads}
 use Rattle.rules.specs.Heard.{member, apart, within, heard}
@@ -115,6 +116,11 @@ start_of n own proposal =
     let number = start_number n own proposal in
     record { number = number; head = cond (eqb number 0) (fresh n own proposal) zero_head }
 
+-- what each answer of a start stands for
+abbrev pub start_given : Result Head Refusal → Started
+start_given (Ok head) = record { number = 0; head = head }
+start_given (Err refusal) = record { number = number_of refusal; head = zero_head }
+
 -- "A head sends its present phase, value and status"
 abbrev pub ballot_of : Head → Ballot
 ballot_of h = ballot h.own h.phase h.value h.status
@@ -123,3 +129,8 @@ ballot_of h = ballot h.own h.phase h.value h.status
 unfoldable pub send_of : Head → Written
 send_of h =
     record { number = cond (sound h) 0 3; bytes = cond (sound h) (bytes_of (ballot_of h)) (replicate ballot_bytes 0) }
+
+-- what each answer of sending stands for
+abbrev pub send_given : Result (List ℕ) Refusal → Written
+send_given (Ok bytes) = record { number = 0; bytes = bytes }
+send_given (Err refusal) = record { number = number_of refusal; bytes = replicate ballot_bytes 0 }

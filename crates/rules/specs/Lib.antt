@@ -1,4 +1,6 @@
 pub mod Number
+pub mod Answer
+pub mod Refusal
 pub mod Sizes
 pub mod Below
 pub mod Ballot

@@ -8,7 +8,7 @@ use Rattle.rules.specs.declared.Decision.{Decision}
 use Rattle.rules.specs.declared.Decision.TheVariants.{One as ForOne, Unwritten as none}
 use Rattle.rules.specs.declared.Ballot.{Ballot}
 use Rattle.rules.specs.declared.Head.{Head}
-use Rattle.rules.specs.declared.Ticked.{Ticked}
+use Rattle.rules.specs.Answer.{Ticked}
 use Rattle.rules.specs.Ballot.{same_value, ballot, encode}
 use Rattle.rules.specs.Head.{head_with, start_of}
 use Rattle.rules.specs.Tick.{tick_of}

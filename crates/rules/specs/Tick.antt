@@ -1,6 +1,6 @@
 -- One tick, with its refusals. Document 01, 'One tick' and 'Numbers given back', sentence by sentence. These are tests;
 -- what they mean is in Given.
-use Rattle.std.specs.Prelude.{ℕ, ◌+◌, ◌/◌, ◌%◌, List, [], ◌∷◌, Bool, cond, ◌&&◌, ◌||◌, not, length, ltb, leb, eqb}
+use Rattle.std.specs.Prelude.{ℕ, ◌+◌, ◌/◌, ◌%◌, List, [], Result, Ok, Err, ◌∷◌, Bool, cond, ◌&&◌, ◌||◌, not, length, ltb, leb, eqb}
 use Rattle.rules.specs.declared.Value.{Value}
 use Rattle.rules.specs.declared.Value.TheVariants.{Zero, One, Blank}
 use Rattle.rules.specs.declared.Status.{Status}
@@ -8,7 +8,9 @@ use Rattle.rules.specs.declared.Status.TheVariants.{Decided}
 use Rattle.rules.specs.declared.Decision.{Decision}
 use Rattle.rules.specs.declared.Ballot.{Ballot}
 use Rattle.rules.specs.declared.Head.{Head}
-use Rattle.rules.specs.declared.Ticked.{Ticked}
+use Rattle.rules.specs.declared.Refusal.{Refusal}
+use Rattle.rules.specs.Answer.{Ticked}
+use Rattle.rules.specs.Refusal.{number_of, index_of}
 use Rattle.rules.specs.Number.{◌when◌, first_that_applies}
 use Rattle.rules.specs.Below.{first, some}
 use Rattle.rules.specs.Ballot.{value_of, status_code, same_value, ballot_at, breaks_rule}
@@ -158,3 +160,8 @@ tick_of h l coin =
       index = tick_index h l coin;
       head = cond (eqb number 0) (settled (stepped (gathered h l) coin)) h;
     }
+
+-- what each answer of a tick of that head stands for
+abbrev pub tick_given : Head → Result Head Refusal → Ticked
+tick_given h (Ok head) = record { number = 0; index = 0; head = head }
+tick_given h (Err refusal) = record { number = number_of refusal; index = index_of refusal; head = h }

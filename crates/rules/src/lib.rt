@@ -1,10 +1,13 @@
 // The nouns of document 01, 'Heads and ballots'. Their meaning stands in specs/, what follows
-// from it in proofs/. No function stands here: `codes`, `engine` and `vote` have the code.
+// from it in proofs/. The code of a vote stands in `codes`, `engine` and `vote`; here only what a
+// refusal's number and index are.
 
 #![tactic(auto)]
 
+ghost use Rattle.std.specs.Prelude.{◌≡◌};
+
 // "a ballot carries a value that is 0, 1 or blank"
-#[derive(Clone, Copy)]
+#[derive(Clone, Copy, Debug, PartialEq, Eq)]
 pub enum Value {
     Zero,
     One,
@@ -12,14 +15,14 @@ pub enum Value {
 }
 
 // "status (undecided or decided)"
-#[derive(Clone, Copy)]
+#[derive(Clone, Copy, Debug, PartialEq, Eq)]
 pub enum Status {
     Undecided,
     Decided,
 }
 
 // "decision (none, 0 or 1)"
-#[derive(Clone, Copy)]
+#[derive(Clone, Copy, Debug, PartialEq, Eq)]
 pub enum Decision {
     Zero,
     One,
@@ -27,7 +30,7 @@ pub enum Decision {
 }
 
 // "A ballot is sender, value, status, phase"
-#[derive(Clone, Copy)]
+#[derive(Clone, Copy, Debug, PartialEq, Eq)]
 pub struct Ballot {
     pub sender: u8,
     pub value: Value,
@@ -37,7 +40,7 @@ pub struct Ballot {
 
 // "A head has: the number of heads n, its own number, phase .., value .., status .., decision ..,
 // and three sets of head numbers: those heard at its present phase with 0, with 1 and with blank."
-#[derive(Clone, Copy)]
+#[derive(Clone, Copy, Debug, PartialEq, Eq)]
 pub struct Head {
     pub n: u8,
     pub own: u8,
@@ -52,7 +55,7 @@ pub struct Head {
 
 // "the values and statuses allowed differ for phase 1, phase 2, odd phases from 3 and even phases
 // from 4"; "phase 0 never stands"
-#[derive(Clone, Copy)]
+#[derive(Clone, Copy, Debug, PartialEq, Eq)]
 pub enum Class {
     Never,
     First,
@@ -61,32 +64,54 @@ pub enum Class {
     Even,
 }
 
-// What reading one ballot answers: the ballot, or the number of the refusal and the index of the first
-// offending ballot.
-#[derive(Clone, Copy)]
-pub enum Read {
-    Accepted(Ballot),
-    Refused { number: u8, index: usize },
+// Why a call is refused: document 01's numbers 1 to 11. "The ballot reader, and the tick above it, are
+// to give the index, from 0, of the first offending ballot", at 6, 7 and 8.
+#[derive(Clone, Copy, Debug, PartialEq, Eq)]
+pub enum Refusal {
+    NotHeads,
+    Proposal,
+    Unsound,
+    Coin,
+    Length,
+    BreaksRule { index: usize },
+    OwnOtherwise { index: usize },
+    Contradicts { index: usize },
+    BothHeard,
+    PhasesEnd,
+    DecidesOtherwise,
 }
 
-// What a start answers; 0 is accepted.
-#[derive(Clone, Copy)]
-pub struct Started {
-    pub number: u8,
-    pub head: Head,
-}
+impl Refusal {
+    ghost use Rattle.rules.specs.Refusal.{number_of, index_of};
 
-// What a tick answers; 0 is accepted. At 6, 7 and 8 the index is that of the first offending ballot.
-#[derive(Clone, Copy)]
-pub struct Ticked {
-    pub number: u8,
-    pub index: usize,
-    pub head: Head,
-}
+    // The number that is given back to C.
+    pub fn number(self) -> u32
+        ensures { result ≡ number_of self }
+    {
+        match self {
+            Refusal::NotHeads => 1,
+            Refusal::Proposal => 2,
+            Refusal::Unsound => 3,
+            Refusal::Coin => 4,
+            Refusal::Length => 5,
+            Refusal::BreaksRule { .. } => 6,
+            Refusal::OwnOtherwise { .. } => 7,
+            Refusal::Contradicts { .. } => 8,
+            Refusal::BothHeard => 9,
+            Refusal::PhasesEnd => 10,
+            Refusal::DecidesOtherwise => 11,
+        }
+    }
 
-// What sending answers: the ballot's five bytes; 0 is accepted.
-#[derive(Clone, Copy)]
-pub struct Written {
-    pub number: u8,
-    pub bytes: [u8; 5],
+    // "Other numbers give index 0."
+    pub fn index(self) -> usize
+        ensures { result ≡ index_of self }
+    {
+        match self {
+            Refusal::BreaksRule { index } => index,
+            Refusal::OwnOtherwise { index } => index,
+            Refusal::Contradicts { index } => index,
+            _ => 0,
+        }
+    }
 }

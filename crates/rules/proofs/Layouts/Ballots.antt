@@ -1,6 +1,6 @@
 -- "Every ballot written reads back as written, and every accepted ballot's bytes are the only ones for it." (Demand 2)
 use Prim.Native.Nat.{ℕ, zero, suc, ◌+◌, ◌*◌, ◌/◌, ◌%◌, ◌<◌}
-use mathlib.Core.Path.{◌≡◌, refl, sym, ap, ap₂, ◌∙◌}
+use mathlib.Core.Path.{◌≡◌, refl, sym, ap, ◌∙◌}
 use mathlib.Core.List.{List, [], ◌∷◌}
 use mathlib.Core.Bool.{false}
 use native.Mathlib.Nat.{div-add-mod'}
@@ -9,14 +9,15 @@ use lib.ListN.{length, get_or}
 use borrow.Author.Tests.{lt-ltb}
 use Rattle.rules.specs.declared.Ballot.{Ballot}
 use Rattle.rules.specs.declared.Head.{Head}
-use Rattle.rules.specs.declared.Read.{Read}
-use Rattle.rules.specs.declared.Read.TheVariants.{Accepted, Refused}
+use Rattle.rules.specs.declared.Refusal.{Refusal}
 use Rattle.rules.specs.Number.{first_that_applies}
-use Rattle.rules.specs.Ballot.{value_code, status_code, ballot_at, bytes_of, breaks_rule, read_number, read_index, read_ballot, zero_ballot, number_read, index_read, ballot_read, Bytes}
+use Rattle.rules.specs.Ballot.{value_code, status_code, ballot_at, bytes_of, breaks_rule, read_number, read_index, read_ballot, number_read, index_read, ballot_read, Bytes}
 use Rattle.rules.specs.Head.{ballot_of, send_of}
-use Rattle.rules.specs.Given.{Heads, Obeys, Sound, phase_1, phase_2, odd_from_3, even_from_4}
+use Rattle.rules.specs.Given.{Heads, Sound}
 use Rattle.rules.proofs.Counting.Truth.{not_false}
 use Rattle.rules.proofs.Meaning.Meanings.{value_back, status_back, means_heads, means_obeys, means_sound}
+use Rattle.std.specs.Prelude.{Result, Ok, Err}
+use Rattle.rules.proofs.Meaning.OneAnswer.{same_refusal, refused_not_0}
 use Rattle.rules.proofs.Meaning.Accepted.{Stands, ReadsWell, read_accepted}
 
 -- the bytes of a ballot hold it
@@ -79,22 +80,11 @@ one_ballot_one_writing n m k l bk bl ek el same = only_bytes n k bk ek ∙ ap by
 
 -- ---- one answer of the reader
 
--- an accepted ballot is not the one of zero fields: phase 0 never stands
-accepted_not_zero : (n : ℕ) (l : List ℕ) → read_number n l ≡ 0 → read_ballot n l ≡ zero_ballot → ⊥
-unfolding read_ballot
-accepted_not_zero n l e z = none (ap (λ (b : Ballot). b.phase) (rw e at z)) (read_accepted n l e).stands.rules
-  where
-    none : {p v s : ℕ} → p ≡ 0 → Obeys p v s → ⊥
-    none q (phase_1 p a b) = omega arith
-    none q (phase_2 p a b) = omega arith
-    none q (odd_from_3 p a b c) = omega arith
-    none q (even_from_4 p a b c d) = omega arith
-
 -- number, index and ballot determine the answer
-pub one_answer : (n : ℕ) (l : List ℕ) (r s : Read)
+pub one_answer : (n : ℕ) (l : List ℕ) (r s : Result Ballot Refusal)
     → number_read r ≡ read_number n l → index_read r ≡ read_index n l → ballot_read r ≡ read_ballot n l
     → number_read s ≡ read_number n l → index_read s ≡ read_index n l → ballot_read s ≡ read_ballot n l → r ≡ s
-one_answer n l (Accepted a) (Accepted b) nr ir br ns is bs = ap Accepted (br ∙ sym bs)
-one_answer n l (Accepted a) (Refused k j) nr ir br ns is bs = absurd (accepted_not_zero n l (sym nr) (sym bs))
-one_answer n l (Refused k i) (Accepted b) nr ir br ns is bs = absurd (accepted_not_zero n l (sym ns) (sym br))
-one_answer n l (Refused k i) (Refused m j) nr ir br ns is bs = ap₂ Refused (nr ∙ sym ns) (ir ∙ sym is)
+one_answer n l (Ok a) (Ok b) nr ir br ns is bs = ap Ok (br ∙ sym bs)
+one_answer n l (Ok a) (Err s) nr ir br ns is bs = absurd (refused_not_0 s (ns ∙ sym nr))
+one_answer n l (Err r) (Ok b) nr ir br ns is bs = absurd (refused_not_0 r (nr ∙ sym ns))
+one_answer n l (Err r) (Err s) nr ir br ns is bs = ap Err (same_refusal r s (nr ∙ sym ns) (ir ∙ sym is))
