@@ -3,13 +3,13 @@
 -- `r` its answer and `s` what it leaves in what it was lent.
 use mathlib.Core.Path.{◌≡◌}
 use Rattle.rules.proofs.Meaning.Answers.{only}
-use Rattle.codes.proofs.code.decision_code.Reads as decision_code
-use Rattle.codes.proofs.code.decision_of.Reads as decision_of
+use Rattle.codes.proofs.code.DecisionCoded.code.Reads as decision_code
+use Rattle.codes.proofs.code.DecisionCoded.from_code.Reads as decision_of
 use Rattle.codes.proofs.numbers.phase_of.Reads as phase_of
-use Rattle.codes.proofs.code.status_code.Reads as status_code
-use Rattle.codes.proofs.code.status_of.Reads as status_of
-use Rattle.codes.proofs.code.value_code.Reads as value_code
-use Rattle.codes.proofs.code.value_of.Reads as value_of
+use Rattle.codes.proofs.code.StatusCoded.code.Reads as status_code
+use Rattle.codes.proofs.code.StatusCoded.from_code.Reads as status_of
+use Rattle.codes.proofs.code.ValueCoded.code.Reads as value_code
+use Rattle.codes.proofs.code.ValueCoded.from_code.Reads as value_of
 use Rattle.codes.proofs.numbers.four_bytes_of.Reads as four_bytes_of
 use Rattle.codes.proofs.sets.member.Reads as member
 use Rattle.codes.proofs.sets.size.Reads as size

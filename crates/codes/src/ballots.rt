@@ -4,7 +4,7 @@ ghost use Rattle.std.specs.Prelude.{◌≡◌, cond, ltb};
 ghost use Rattle.rules.specs.Ballot.{bytes_of, ballot_at, zero_ballot};
 ghost use Rattle.rules.specs.Tick.{ballots as ballots_of};
 
-use crate::code::{status_code, status_of, value_code, value_of};
+use crate::code::Coded;
 use crate::numbers::phase_of;
 use crate::sizes::BALLOT_BYTES;
 use rules::{Ballot, Status, Value};
@@ -26,12 +26,10 @@ pub fn ballot_at(ballots: &[u8], i: usize) -> Ballot
 {
     if i < ballots.len() / BALLOT_BYTES {
         let at = i * BALLOT_BYTES;
-        let value = value_of(ballots[at + VALUE]);
-        let status = status_of(ballots[at + STATUS]);
         return Ballot {
             sender: ballots[at + SENDER],
-            value: value,
-            status: status,
+            value: Value::from_code(ballots[at + VALUE]),
+            status: Status::from_code(ballots[at + STATUS]),
             phase: phase_of(ballots[at + PHASE_HIGH], ballots[at + PHASE_LOW]),
         };
     }
@@ -47,14 +45,12 @@ pub fn ballot_at(ballots: &[u8], i: usize) -> Ballot
 pub fn ballot_bytes(ballot: Ballot) -> [u8; BALLOT_BYTES]
     ensures { result ≡ bytes_of ballot }
 {
-    let phase = ballot.phase;
-    let value = ballot.value;
-    let status = ballot.status;
+    let [high, low] = ballot.phase.to_be_bytes();
     [
         ballot.sender,
-        value_code(value),
-        status_code(status),
-        (phase / 256) as u8,
-        (phase % 256) as u8,
+        ballot.value.code(),
+        ballot.status.code(),
+        high,
+        low,
     ]
 }

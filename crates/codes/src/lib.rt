@@ -13,7 +13,7 @@ mod sets;
 mod sizes;
 
 pub use ballots::{PHASE_HIGH, PHASE_LOW, SENDER, STATUS, VALUE, ballot_at, ballot_bytes};
-pub use code::{decision_code, decision_of, status_code, status_of, value_code, value_of};
+pub use code::Coded;
 pub use numbers::{four_bytes_of, phase_of};
 pub use records::{head_at, is_record, record_of, zero_head};
 pub use sets::{lowest, member, size, within};

@@ -5,7 +5,7 @@ ghost use Rattle.rules.specs.Sizes.{record_bytes};
 ghost use Rattle.rules.specs.Head.{zero_head};
 ghost use Rattle.rules.specs.Record.{record_of, is_record, head_at};
 
-use crate::code::{decision_code, decision_of, status_code, status_of, value_code, value_of};
+use crate::code::Coded;
 use crate::numbers::{four_bytes_of, phase_of};
 use crate::sizes::RECORD_BYTES;
 use rules::{Decision, Head, Status, Value};
@@ -32,9 +32,9 @@ pub fn head_at(head_record: &[u8]) -> Head
         n: head_record[0],
         own: head_record[1],
         phase: phase_of(head_record[2], head_record[3]),
-        value: value_of(head_record[4]),
-        status: status_of(head_record[5]),
-        decision: decision_of(head_record[6]),
+        value: Value::from_code(head_record[4]),
+        status: Status::from_code(head_record[5]),
+        decision: Decision::from_code(head_record[6]),
         zeros: four_bytes_of(
             head_record[8],
             head_record[9],
@@ -60,34 +60,31 @@ pub fn head_at(head_record: &[u8]) -> Head
 pub fn record_of(head: Head) -> [u8; RECORD_BYTES]
     ensures { result ≡ record_of head }
 {
-    let value = head.value;
-    let status = head.status;
-    let decision = head.decision;
-    let phase = head.phase;
-    let zeros = head.zeros;
-    let ones = head.ones;
-    let blanks = head.blanks;
+    let [high, low] = head.phase.to_be_bytes();
+    let zeros = head.zeros.to_be_bytes();
+    let ones = head.ones.to_be_bytes();
+    let blanks = head.blanks.to_be_bytes();
     [
         head.n,
         head.own,
-        (phase / 256) as u8,
-        (phase % 256) as u8,
-        value_code(value),
-        status_code(status),
-        decision_code(decision),
+        high,
+        low,
+        head.value.code(),
+        head.status.code(),
+        head.decision.code(),
         0,
-        (zeros / 16777216) as u8,
-        (zeros / 65536 % 256) as u8,
-        (zeros / 256 % 256) as u8,
-        (zeros % 256) as u8,
-        (ones / 16777216) as u8,
-        (ones / 65536 % 256) as u8,
-        (ones / 256 % 256) as u8,
-        (ones % 256) as u8,
-        (blanks / 16777216) as u8,
-        (blanks / 65536 % 256) as u8,
-        (blanks / 256 % 256) as u8,
-        (blanks % 256) as u8,
+        zeros[0],
+        zeros[1],
+        zeros[2],
+        zeros[3],
+        ones[0],
+        ones[1],
+        ones[2],
+        ones[3],
+        blanks[0],
+        blanks[1],
+        blanks[2],
+        blanks[3],
     ]
 }
 

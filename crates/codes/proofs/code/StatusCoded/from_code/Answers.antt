@@ -1,7 +1,7 @@
 use native.Mathlib.Omega.{arith}
 use borrow.Author.Tests.{ne_eqb}
 use Rattle.rules.specs.Ballot.{status_of}
-use Rattle.codes.proofs.code.status_of.Goals as goal
+use Rattle.codes.proofs.code.StatusCoded.from_code.Goals as goal
 
 pub returns-in-0 : goal.returns-in-0
 unfolding status_of

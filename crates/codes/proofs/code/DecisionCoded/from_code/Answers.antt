@@ -1,7 +1,7 @@
 use native.Mathlib.Omega.{arith}
 use borrow.Author.Tests.{ne_eqb}
 use Rattle.rules.specs.Record.{decision_of}
-use Rattle.codes.proofs.code.decision_of.Goals as goal
+use Rattle.codes.proofs.code.DecisionCoded.from_code.Goals as goal
 
 pub returns-in-0 : goal.returns-in-0
 unfolding decision_of
