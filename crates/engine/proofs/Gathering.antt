@@ -13,7 +13,7 @@ use Rattle.rules.specs.declared.Value.{Value}
 use Rattle.rules.specs.declared.Value.TheVariants.{Zero, One, Blank}
 use Rattle.rules.specs.declared.Ballot.{Ballot}
 use Rattle.rules.specs.declared.Head.{Head}
-use Rattle.rules.specs.declared.Ticked.{Ticked}
+use Rattle.rules.specs.Answer.{Ticked}
 use Rattle.rules.specs.Number.{first_that_applies}
 use Rattle.rules.specs.Below.{first, some}
 use Rattle.rules.specs.Ballot.{value_code, status_code, same_value, ballot_at, breaks_rule}

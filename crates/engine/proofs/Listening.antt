@@ -1,18 +1,20 @@
 -- The numbers that a list of ballots gives, among all numbers of a tick.
-use Prim.Native.Nat.{ℕ, ◌+◌, ◌≤◌, ◌<◌}
+use Prim.Native.Nat.{ℕ, ◌+◌, ◌<◌}
 use mathlib.Core.Path.{◌≡◌, refl, sym, ap, ◌∙◌}
 use mathlib.Core.List.{List}
-use mathlib.Core.Bool.{Bool, true, false, cond}
+use mathlib.Core.Bool.{Bool, true, false, cond, ◌&&◌}
 use native.Mathlib.Omega.{arith}
-use lib.Dec.{ltb, eqb}
-use borrow.Author.Tests.{ne_eqb, le-leb, lt-leb}
+use lib.Dec.{ltb, leb, eqb}
+use borrow.Author.Tests.{ne_eqb}
+use Rattle.std.proofs.lemmas.Bool.{leb-false}
+use Rattle.rules.proofs.Counting.Truth.{means_same, means_as, means_le}
 use Rattle.rules.specs.declared.Head.{Head}
-use Rattle.rules.specs.declared.Ticked.{Ticked}
+use Rattle.rules.specs.Answer.{Ticked}
 use Rattle.rules.specs.Number.{first_that_applies}
 use Rattle.rules.specs.Below.{some}
 use Rattle.rules.specs.Ballot.{ballot_at, breaks_rule}
 use Rattle.rules.specs.Head.{sound}
-use Rattle.rules.specs.Tick.{ballots, gathered, stepped, not_list, own_otherwise, contradicts, both_heard, phases_end, decides_otherwise, quorum, risen, settled, tick_number, offender, tick_index, tick_of}
+use Rattle.rules.specs.Tick.{ballots, gathered, stepped, not_list, own_otherwise, contradicts, both_heard, phases_end, decides_otherwise, quorum, settled, tick_number, offender, tick_index, tick_of}
 use Rattle.engine.specs.Look.{list_number, listened, end_number, ended}
 
 -- none applies, and this is the head after steps 1 and 2
@@ -92,24 +94,22 @@ pub ends_10 : (h g : Head) (coin : ℕ) → both_heard g ≡ false → phases_en
 unfolding ended end_number first_that_applies
 ends_10 h g coin q w = simp (q, w)
 
-pub ends : (h g : Head) (coin : ℕ) (x : Head) → both_heard g ≡ false → (phases_end g ≡ false) × (x ≡ stepped g coin)
-    → cond (decides_otherwise x) (record { number = 11; index = 0; head = h }) (record { number = 0; index = 0; head = settled x }) ≡ ended h g coin
-unfolding ended end_number first_that_applies
-ends h g coin x q w = simp (q, w.0, ← w.1, go (decides_otherwise x))
-  where
-    go : (t : Bool) → ◌≡◌ {A = Ticked} (cond t (record { number = 11; index = 0; head = h }) (record { number = 0; index = 0; head = settled x })) (record { number = cond t 11 0; index = 0; head = cond (eqb (cond t 11 0) 0) (settled x) h })
-    go true = refl
-    go false = refl
+-- step 3 is taken where 9 and 10 do not apply
+module _ (h g : Head) (coin : ℕ) (x : Head) (q : both_heard g ≡ false) (w : phases_end g ≡ false) (is : x ≡ stepped g coin) where
+  pub ends_11 : decides_otherwise x ≡ true → ◌≡◌ {A = Ticked} (record { number = 11; index = 0; head = h }) (ended h g coin)
+  unfolding ended end_number first_that_applies
+  ends_11 d = simp (q, w, ← is, d)
 
--- the test for 10, and step 3, by whether enough heads are heard
-pub not_stepped : (g : Head) (coin : ℕ) → quorum g ≡ false → (phases_end g ≡ false) × (g ≡ stepped g coin)
-unfolding phases_end stepped
-not_stepped g coin q = (simp q, simp q)
+  pub ends_0 : (y : Head) → decides_otherwise x ≡ false → y ≡ settled x → ◌≡◌ {A = Ticked} (record { number = 0; index = 0; head = y }) (ended h g coin)
+  unfolding ended end_number first_that_applies
+  ends_0 y d e = simp (q, w, ← is, d, e)
 
-pub last_phase : (g : Head) → quorum g ≡ true → 65535 ≤ g.phase → phases_end g ≡ true
+-- ---- the phase that a step would need
+
+pub last_phase : (p : ℕ) → leb 65535 p ≡ leb 65536 (p + 1)
+last_phase p = means_same (means_le 65535 p) (means_as (λ b. omega arith) (λ b. omega arith) (means_le 65536 (p + 1)))
+
+-- one is left where 10 does not apply to a head that steps
+pub phase_left : (g : Head) → quorum g ≡ true → phases_end g ≡ false → g.phase < 65535
 unfolding phases_end
-last_phase g q b = simp (q, le-leb 65536 (g.phase + 1) (omega arith))
-
-pub has_stepped : (g : Head) (coin : ℕ) (x : Head) → quorum g ≡ true → g.phase < 65535 → x ≡ risen g coin → (phases_end g ≡ false) × (x ≡ stepped g coin)
-unfolding phases_end stepped
-has_stepped g coin x q b e = (simp (q, lt-leb 65536 (g.phase + 1) (omega arith)), e ∙ simp q)
+phase_left g q e = omega (arith, leb-false 65536 (g.phase + 1) (sym (ap (λ (t : Bool). t && leb 65536 (g.phase + 1)) q) ∙ e))

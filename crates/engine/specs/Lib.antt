@@ -1,2 +1,1 @@
-pub mod Stated
 pub mod Look

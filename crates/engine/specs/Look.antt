@@ -4,7 +4,7 @@ use Rattle.std.specs.Prelude.{ℕ, zero, suc, ◌+◌, ◌*◌, ◌/◌, ◌%◌
 use Rattle.std.specs.Int.Bits.{bit_or}
 use Rattle.rules.specs.declared.Ballot.{Ballot}
 use Rattle.rules.specs.declared.Head.{Head}
-use Rattle.rules.specs.declared.Ticked.{Ticked}
+use Rattle.rules.specs.Answer.{Ticked}
 use Rattle.rules.specs.declared.Class.{Class}
 use Rattle.rules.specs.declared.Class.TheVariants.{Never, First, Second, Odd, Even}
 use Rattle.rules.specs.Number.{◌when◌, first_that_applies}

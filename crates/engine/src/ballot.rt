@@ -1,6 +1,5 @@
 // One ballot: the ballot rules, and reading it from its bytes.
 ghost use Rattle.std.specs.Prelude.{◌≡◌, ◌<◌};
-ghost use Rattle.rules.specs.declared.Read.TheVariants.{Refused};
 ghost use Rattle.rules.specs.Ballot.{class_of, allowed as allowed_of, obeys as obeys_of, breaks_rule};
 ghost use Rattle.rules.specs.Ballot.{read_number, read_index, read_ballot, number_read, index_read, ballot_read};
 ghost use Rattle.rules.specs.Tick.{ballots as ballots_of};
@@ -8,34 +7,24 @@ ghost use Rattle.rules.specs.Tick.{ballots as ballots_of};
 use codes::{
     BALLOT_BYTES, PHASE_HIGH, PHASE_LOW, SENDER, STATUS, VALUE, ballot_at, not_heads, phase_of,
 };
-use rules::{Class, Read};
+use rules::{Ballot, Class, Refusal};
 
-// Reads one ballot of a vote of n heads.
-pub fn read(n: u32, bytes: &[u8]) -> Read
+// Reads one ballot of a vote of n heads; it stands at index 0.
+pub fn read(n: u32, bytes: &[u8]) -> Result<Ballot, Refusal>
     ensures number { number_read result ≡ read_number n bytes.now }
     ensures index { index_read result ≡ read_index n bytes.now }
     ensures ballot { ballot_read result ≡ read_ballot n bytes.now }
 {
     if not_heads(n) {
-        return refusal(1);
+        return Err(Refusal::NotHeads);
     }
     if bytes.len() != BALLOT_BYTES {
-        return refusal(5);
+        return Err(Refusal::Length);
     }
     if breaks_rule(n, bytes, 0) {
-        return refusal(6);
+        return Err(Refusal::BreaksRule { index: 0 });
     }
-    Read::Accepted(ballot_at(bytes, 0))
-}
-
-// One ballot stands at index 0.
-fn refusal(number: u8) -> Read
-    ensures { result ≡ Refused number 0 }
-{
-    Read::Refused {
-        number: number,
-        index: 0,
-    }
+    Ok(ballot_at(bytes, 0))
 }
 
 // Whether the ballot at index i breaks a ballot rule.

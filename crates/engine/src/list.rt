@@ -8,7 +8,7 @@ ghost use Rattle.engine.specs.Look.{is_of};
 use crate::ballot::breaks_rule;
 use crate::head::{own_ballot, stands_under};
 use crate::said::{phase_at, sender_at};
-use codes::{BALLOT_BYTES, ballot_at, status_code, value_code};
+use codes::{BALLOT_BYTES, ballot_at};
 use rules::{Ballot, Head};
 
 // The first ballot that breaks a ballot rule; where there is none, the number of ballots. So in
@@ -107,16 +107,11 @@ pub(crate) fn otherwise(head: Head, ballots: &[u8], i: usize) -> bool
 fn held_otherwise(head: Head, ballot: Ballot) -> bool
     ensures { result ≡ held_otherwise head ballot }
 {
-    let value = ballot.value;
-    (ballot.phase == head.phase) & !stands_under(head, ballot.sender, value)
+    (ballot.phase == head.phase) & !stands_under(head, ballot.sender, ballot.value)
 }
 
 fn same_state(a: Ballot, b: Ballot) -> bool
     ensures { result ≡ same_state a b }
 {
-    let a_value = a.value;
-    let b_value = b.value;
-    let a_status = a.status;
-    let b_status = b.status;
-    (value_code(a_value) == value_code(b_value)) & (status_code(a_status) == status_code(b_status))
+    (a.value == b.value) & (a.status == b.status)
 }

@@ -13,8 +13,8 @@ use crate::list::{first_of, otherwise};
 use crate::said::{
     alone, barred_from, code_at, codes_of, has, phase_at, sender_at, stands, statuses_of,
 };
-use codes::{BALLOT_BYTES, lowest, status_of, value_of};
-use rules::{Ballot, Head};
+use codes::{BALLOT_BYTES, Coded, lowest};
+use rules::{Ballot, Head, Status, Value};
 
 // What the first `next` ballots say, none of them refused. `phase`: the highest, the head's own
 // among them. Of the ballots of that phase: `listed`, who sent one, and, by value and status, who
@@ -252,8 +252,8 @@ pub(crate) fn foremost(look: Look) -> Ballot
     let code = code_by(look, sender);
     Ballot {
         sender: sender,
-        value: value_of(code / 2),
-        status: status_of(code % 2),
+        value: Value::from_code(code / 2),
+        status: Status::from_code(code % 2),
         phase: look.phase,
     }
 }

@@ -5,9 +5,7 @@ ghost use Rattle.rules.specs.Heard.{member as member_of, set_of};
 ghost use Rattle.rules.specs.Tick.{ballots as ballots_of};
 ghost use Rattle.engine.specs.Look.{code_at, is_within, statuses_of, codes_of, barred_from, alone as alone_of};
 
-use codes::{
-    BALLOT_BYTES, PHASE_HIGH, PHASE_LOW, SENDER, STATUS, VALUE, phase_of, status_code, value_code,
-};
+use codes::{BALLOT_BYTES, Coded, PHASE_HIGH, PHASE_LOW, SENDER, STATUS, VALUE, phase_of};
 use rules::{Class, Head};
 
 // Of the ballot at index i.
@@ -89,9 +87,7 @@ pub(crate) fn barred_from(head: Head, phase: u16) -> [u32; 5]
     let zeros = head.zeros;
     let ones = head.ones;
     let blanks = head.blanks;
-    let value = head.value;
-    let status = head.status;
-    let code = code_of(value_code(value), status_code(status));
+    let code = code_of(head.value.code(), head.status.code());
     [
         either(ones, blanks, unless(code == 0, own)),
         either(ones, blanks, unless(code == 1, own)),

@@ -1,27 +1,26 @@
 // The four steps of a tick, where nothing is refused.
-ghost use Rattle.std.specs.Prelude.{◌≡◌, cond, ◌<◌, ltb, eqb};
-ghost use Rattle.rules.specs.Ballot.{status_code};
-ghost use Rattle.rules.specs.Head.{decision_for as decision_for_of};
-ghost use Rattle.rules.specs.Tick.{quorum as quorum_of, majority as majority_of, step_value, step_status};
-ghost use Rattle.rules.specs.Tick.{copying as copying_of, risen as risen_of, settled as settled_of};
+ghost use Rattle.std.specs.Prelude.{◌≡◌, false, cond, ◌<◌, ltb};
+ghost use Rattle.rules.specs.Tick.{quorum as quorum_of, majority as majority_of, step_value, step_status, decision_after};
+ghost use Rattle.rules.specs.Tick.{copying as copying_of, risen as risen_of, stepped as stepped_of, settled as settled_of, phases_end};
 ghost use Rattle.engine.specs.Look.{foremost as foremost_of, shown as shown_of};
 
-use crate::head::stated;
+use crate::head::is_decided;
 use crate::heard::heard;
 use crate::look::{Look, foremost};
 use crate::said::either;
-use codes::{size, status_code, value_of};
+use codes::{Coded, size};
 use rules::{Ballot, Decision, Head, Status, Value};
 
 // Step 1, of a head that step 2 has moved: those that were seen at its phase are added.
 pub(crate) fn shown(head: Head, look: Look) -> Head
     ensures { result ≡ shown_of head look }
 {
-    let mut shown = head;
-    shown.zeros = either(head.zeros, look.zeros, look.zeros_decided);
-    shown.ones = either(head.ones, look.ones, look.ones_decided);
-    shown.blanks = either(head.blanks, look.blanks, 0);
-    shown
+    Head {
+        zeros: either(head.zeros, look.zeros, look.zeros_decided),
+        ones: either(head.ones, look.ones, look.ones_decided),
+        blanks: either(head.blanks, look.blanks, 0),
+        ..head
+    }
 }
 
 // Step 2, by the look at a whole list.
@@ -37,44 +36,52 @@ pub(crate) fn moved(head: Head, look: Look) -> Head
 fn copying(head: Head, ballot: Ballot) -> Head
     ensures { result ≡ copying_of head ballot }
 {
-    let value = ballot.value;
-    let status = ballot.status;
-    let decision = head.decision;
-    let mut copy = stated(head, value, status, decision);
-    copy.phase = ballot.phase;
-    copy.zeros = 0;
-    copy.ones = 0;
-    copy.blanks = 0;
-    copy
+    Head {
+        phase: ballot.phase,
+        value: ballot.value,
+        status: ballot.status,
+        zeros: 0,
+        ones: 0,
+        blanks: 0,
+        ..head
+    }
 }
 
-// Step 3, of a head that has heard enough.
-pub(crate) fn risen(head: Head, coin: u8) -> Head
+// Step 3.
+pub(crate) fn stepped(head: Head, coin: u8) -> Head
+    requires { phases_end head ≡ false }
+    ensures { result ≡ stepped_of head coin }
+{
+    if quorum(head) {
+        risen(head, coin)
+    } else {
+        head
+    }
+}
+
+fn risen(head: Head, coin: u8) -> Head
     requires { head.phase < 65535 }
     ensures { result ≡ risen_of head coin }
 {
-    let decision = head.decision;
-    let mut risen = stated(head, step_value(head, coin), step_status(head), decision);
-    risen.phase = head.phase + 1;
-    risen.zeros = 0;
-    risen.ones = 0;
-    risen.blanks = 0;
-    risen
+    Head {
+        phase: head.phase + 1,
+        value: step_value(head, coin),
+        status: step_status(head),
+        zeros: 0,
+        ones: 0,
+        blanks: 0,
+        ..head
+    }
 }
 
-// Step 4: "If decided, the decision is the value."
+// Step 4.
 pub(crate) fn settled(head: Head) -> Head
     ensures { result ≡ settled_of head }
 {
-    let value = head.value;
-    let status = head.status;
-    let decision = head.decision;
-    stated(
-        head,
-        value,
-        status,
-        settled_decision(status, value, decision),
-    )
+    Head {
+        decision: decision_after(head),
+        ..head
+    }
 }
 
 // Whether step 3 is taken.
@@ -100,7 +107,7 @@ fn step_value(head: Head, coin: u8) -> Value
             Value::Blank,
         )
     } else {
-        bit_with(head.zeros != 0, head.ones != 0, value_of(coin))
+        bit_with(head.zeros != 0, head.ones != 0, Value::from_code(coin))
     }
 }
 
@@ -108,10 +115,10 @@ fn step_value(head: Head, coin: u8) -> Value
 fn bit_with(zero: bool, one: bool, other: Value) -> Value
     ensures { result ≡ cond zero (cond one other Value.Zero) (cond one Value.One other) }
 {
-    if zero {
-        if one { other } else { Value::Zero }
-    } else {
-        if one { Value::One } else { other }
+    match (zero, one) {
+        (true, false) => Value::Zero,
+        (false, true) => Value::One,
+        _ => other,
     }
 }
 
@@ -125,22 +132,13 @@ fn step_status(head: Head) -> Status
     }
 }
 
-fn settled_decision(status: Status, value: Value, decision: Decision) -> Decision
-    ensures { result ≡ cond (eqb (status_code status) 1) (decision_for_of value) decision }
+// "If decided, the decision is the value."
+fn decision_after(head: Head) -> Decision
+    ensures { result ≡ decision_after head }
 {
-    if status_code(status) == 1 {
-        decision_for(value)
+    if is_decided(head) {
+        Decision::from(head.value)
     } else {
-        decision
-    }
-}
-
-fn decision_for(value: Value) -> Decision
-    ensures { result ≡ decision_for_of value }
-{
-    match value {
-        Value::Zero => Decision::Zero,
-        Value::One => Decision::One,
-        Value::Blank => Decision::Unwritten,
+        head.decision
     }
 }

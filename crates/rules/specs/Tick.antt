@@ -8,7 +8,7 @@ use Rattle.rules.specs.declared.Status.TheVariants.{Decided}
 use Rattle.rules.specs.declared.Decision.{Decision}
 use Rattle.rules.specs.declared.Ballot.{Ballot}
 use Rattle.rules.specs.declared.Head.{Head}
-use Rattle.rules.specs.declared.Refusal.{Refusal}
+use Rattle.rules.specs.declared.Refused.{Refused}
 use Rattle.rules.specs.Answer.{Ticked}
 use Rattle.rules.specs.Refusal.{number_of, index_of}
 use Rattle.rules.specs.Number.{◌when◌, first_that_applies}
@@ -161,7 +161,8 @@ tick_of h l coin =
       head = cond (eqb number 0) (settled (stepped (gathered h l) coin)) h;
     }
 
--- what each answer of a tick of that head stands for
-abbrev pub tick_given : Head → Result Head Refusal → Ticked
-tick_given h (Ok head) = record { number = 0; index = 0; head = head }
-tick_given h (Err refusal) = record { number = number_of refusal; index = index_of refusal; head = h }
+-- what each answer of a tick stands for
+abbrev pub tick_given : Result Head Refused → Ticked
+tick_given (Ok head) = record { number = 0; index = 0; head = head }
+tick_given (Err refused) =
+    record { number = number_of refused.refusal; index = index_of refused.refusal; head = refused.head }

@@ -1,6 +1,6 @@
 // The nouns of document 01, 'Heads and ballots'. Their meaning stands in specs/, what follows
-// from it in proofs/. The code of a vote stands in `codes`, `engine` and `vote`; here only what a
-// refusal's number and index are.
+// from it in proofs/. The code of a vote stands in `codes`, `engine` and `vote`; here only the decision
+// for a value, and a refusal's number and index.
 
 #![tactic(auto)]
 
@@ -27,6 +27,21 @@ pub enum Decision {
     Zero,
     One,
     Unwritten,
+}
+
+// "If decided, the decision is the value."; there is none for blank.
+impl From<Value> for Decision {
+    ghost use Rattle.rules.specs.Head.{decision_for};
+
+    ghost from_gives = { λ value decision. decision ≡ decision_for value };
+
+    fn from(value: Value) -> Decision {
+        match value {
+            Value::Zero => Decision::Zero,
+            Value::One => Decision::One,
+            Value::Blank => Decision::Unwritten,
+        }
+    }
 }
 
 // "A ballot is sender, value, status, phase"
@@ -79,6 +94,13 @@ pub enum Refusal {
     BothHeard,
     PhasesEnd,
     DecidesOtherwise,
+}
+
+// "A refused tick gives back the head as it came, sound or not."
+#[derive(Clone, Copy, Debug, PartialEq, Eq)]
+pub struct Refused {
+    pub refusal: Refusal,
+    pub head: Head,
 }
 
 impl Refusal {

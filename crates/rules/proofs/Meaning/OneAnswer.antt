@@ -8,6 +8,7 @@ use lib.Dec.{ltb, eqb}
 use Rattle.std.specs.Prelude.{Result, Ok, Err}
 use Rattle.rules.specs.declared.Head.{Head}
 use Rattle.rules.specs.declared.Refusal.{Refusal}
+use Rattle.rules.specs.declared.Refused.{Refused}
 use Rattle.rules.specs.declared.Refusal.TheVariants.{NotHeads, Proposal, Unsound, Coin, Length, BreaksRule, OwnOtherwise, Contradicts, BothHeard, PhasesEnd, DecidesOtherwise}
 use Rattle.rules.specs.Number.{first_that_applies}
 use Rattle.rules.specs.Refusal.{number_of, index_of}
@@ -99,12 +100,15 @@ one_start n own proposal (Err r) (Ok h) er es = absurd (refused_not_0 r (ap (λ 
 one_start n own proposal (Err r) (Err s) er es =
     ap Err (same_below_6 r s _ (ap (λ (t : Started). t.number) er) (ap (λ (t : Started). t.number) es) (start_below_6 n own proposal))
 
-pub one_tick : (h : Head) (t : Ticked) (r s : Result Head Refusal) → tick_given h r ≡ t → tick_given h s ≡ t → r ≡ s
-one_tick h t (Ok g) (Ok k) er es = ap Ok (ap (λ (x : Ticked). x.head) (er ∙ sym es))
-one_tick h t (Ok g) (Err s) er es = absurd (refused_not_0 s (ap (λ (x : Ticked). x.number) (es ∙ sym er)))
-one_tick h t (Err r) (Ok k) er es = absurd (refused_not_0 r (ap (λ (x : Ticked). x.number) (er ∙ sym es)))
-one_tick h t (Err r) (Err s) er es =
-    ap Err (same_refusal r s (ap (λ (x : Ticked). x.number) (er ∙ sym es)) (ap (λ (x : Ticked). x.index) (er ∙ sym es)))
+pub one_tick : (t : Ticked) (r s : Result Head Refused) → tick_given r ≡ t → tick_given s ≡ t → r ≡ s
+one_tick t (Ok g) (Ok k) er es = ap Ok (ap (λ (x : Ticked). x.head) (er ∙ sym es))
+one_tick t (Ok g) (Err s) er es = absurd (refused_not_0 s.refusal (ap (λ (x : Ticked). x.number) (es ∙ sym er)))
+one_tick t (Err r) (Ok k) er es = absurd (refused_not_0 r.refusal (ap (λ (x : Ticked). x.number) (er ∙ sym es)))
+one_tick t (Err r) (Err s) er es =
+    ap Err
+    (ap₂ (λ (q : Refusal) (h : Head). record { refusal = q; head = h })
+    (same_refusal r.refusal s.refusal (ap (λ (x : Ticked). x.number) (er ∙ sym es)) (ap (λ (x : Ticked). x.index) (er ∙ sym es)))
+    (ap (λ (x : Ticked). x.head) (er ∙ sym es)))
 
 send_below_6 : (h : Head) → (send_of h).number < 6
 unfolding send_of

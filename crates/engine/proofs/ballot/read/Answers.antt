@@ -1,38 +1,40 @@
 use Prim.Native.Nat.{ℕ}
-use mathlib.Core.Path.{◌≡◌, refl, sym, ap, ◌∙◌}
+use mathlib.Core.Path.{◌≡◌, refl, sym}
 use mathlib.Core.List.{List}
 use native.Mathlib.Omega.{arith}
 use borrow.Author.Tests.{ne_eqb, eq-eqb}
-use Rattle.rules.specs.declared.Read.{Read}
-use Rattle.rules.specs.declared.Read.TheVariants.{Refused}
+use Rattle.std.specs.Prelude.{Err}
+use Rattle.rules.specs.declared.Refusal.{Refusal}
+use Rattle.rules.specs.declared.Refusal.TheVariants.{NotHeads, Length, BreaksRule}
+use Rattle.rules.specs.Refusal.{number_of, index_of}
+use Rattle.rules.proofs.Meaning.OneAnswer.{refused_not_0}
 use Rattle.rules.specs.Number.{first_that_applies}
 use Rattle.rules.specs.Ballot.{read_number, read_index, read_ballot, number_read, index_read, ballot_read}
 use Rattle.codes.proofs.Held.{ballot_there}
 use Rattle.engine.proofs.ballot.read.Goals as goal
 
 -- what is promised of a refusal follows from its number
-refused_by : (n : ℕ) (bytes : List ℕ) (number : ℕ) (r : Read) → (number ≡ 0 → ⊥) → r ≡ Refused number 0 → read_number n bytes ≡ number
-    → (number_read r ≡ read_number n bytes) × ((index_read r ≡ read_index n bytes) × (ballot_read r ≡ read_ballot n bytes))
+refused_by : (n : ℕ) (bytes : List ℕ) (r : Refusal) → index_of r ≡ 0 → read_number n bytes ≡ number_of r
+    → (number_read (Err r) ≡ read_number n bytes) × ((index_read (Err r) ≡ read_index n bytes) × (ballot_read (Err r) ≡ read_ballot n bytes))
 unfolding read_ballot
-refused_by n bytes number r some is e =
-    (ap number_read is ∙ sym e, (ap index_read is, ap ballot_read is ∙ sym (simp (e, ne_eqb number 0 some))))
+refused_by n bytes r index e = (sym e, (index, sym (simp (e, ne_eqb (number_of r) 0 (refused_not_0 r)))))
 
 pub returns-then-not_heads : goal.returns-then-not_heads
 unfolding read_number first_that_applies
 returns-then-not_heads c =
-    let all = refused_by _ _ 1 _ (λ z. omega (arith, z)) c.refusal.ensures (simp (← c.not_heads.ensures, c.if-not_heads.true)) in
+    let all = refused_by _ _ NotHeads refl (simp (← c.not_heads.ensures, c.if-not_heads.true)) in
     record { number = all.0; index = all.1.0; ballot = all.1.1 }
 
 pub returns-then-bytes-ne-BALLOT_BYTES : goal.returns-then-bytes-ne-BALLOT_BYTES
 unfolding read_number first_that_applies
 returns-then-bytes-ne-BALLOT_BYTES c =
-    let all = refused_by _ _ 5 _ (λ z. omega (arith, z)) c.refusal-then-bytes-ne-BALLOT_BYTES.ensures (simp (← c.not_heads.ensures, c.if-not_heads.false, ne_eqb _ _ c.if-bytes-ne-BALLOT_BYTES.true)) in
+    let all = refused_by _ _ Length refl (simp (← c.not_heads.ensures, c.if-not_heads.false, ne_eqb _ _ c.if-bytes-ne-BALLOT_BYTES.true)) in
     record { number = all.0; index = all.1.0; ballot = all.1.1 }
 
 pub returns-then-breaks_rule : goal.returns-then-breaks_rule
 unfolding read_number first_that_applies
 returns-then-breaks_rule c =
-    let all = refused_by _ _ 6 _ (λ z. omega (arith, z)) c.refusal-then-breaks_rule.ensures (simp (← c.not_heads.ensures, c.if-not_heads.false, eq-eqb _ _ c.if-bytes-ne-BALLOT_BYTES.false, ← c.breaks_rule.ensures, c.if-breaks_rule.true)) in
+    let all = refused_by _ _ (BreaksRule 0) refl (simp (← c.not_heads.ensures, c.if-not_heads.false, eq-eqb _ _ c.if-bytes-ne-BALLOT_BYTES.false, ← c.breaks_rule.ensures, c.if-breaks_rule.true)) in
     record { number = all.0; index = all.1.0; ballot = all.1.1 }
 
 pub returns : goal.returns

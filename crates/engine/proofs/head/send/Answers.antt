@@ -1,10 +1,10 @@
 use Rattle.rules.specs.Head.{send_of}
 use Rattle.engine.proofs.head.send.Goals as goal
 
-pub returns-then-sound : goal.returns-then-sound
+pub returns-then-not-sound : goal.returns-then-not-sound
 unfolding send_of
-returns-then-sound c = simp (← c.sound.ensures, c.if-sound.true, c.ballot_bytes.ensures, c.own_ballot.ensures)
+returns-then-not-sound c = simp (← c.sound.ensures, c.if-not-sound.true)
 
-pub returns-else-sound : goal.returns-else-sound
+pub returns : goal.returns
 unfolding send_of
-returns-else-sound c = simp (← c.sound.ensures, c.if-sound.false)
+returns c = simp (← c.sound.ensures, c.if-not-sound.false, c.ballot_bytes.ensures, c.own_ballot.ensures)

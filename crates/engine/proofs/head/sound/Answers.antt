@@ -12,4 +12,4 @@ returns-then-head c = simp (← c.not_heads.ensures, c.if-not_heads.false, le-lt
 
 pub returns : goal.returns
 unfolding sound
-returns c = simp (← c.not_heads.ensures, c.if-not_heads.false, lt-ltb _ _ c.if-head.false, c.value_code.ensures, c.status_code.ensures, c.obeys.ensures, c.decision_fits.ensures, c.sets_fit.ensures, c.phase_fits.ensures, c.stands_under.ensures)
+returns c = simp (← c.not_heads.ensures, c.if-not_heads.false, lt-ltb _ _ c.if-head.false, c.code.ensures, c.code-2.ensures, c.obeys.ensures, c.decision_fits.ensures, c.sets_fit.ensures, c.phase_fits.ensures, c.stands_under.ensures)

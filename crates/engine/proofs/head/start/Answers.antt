@@ -10,11 +10,11 @@ use Rattle.engine.proofs.head.start.Goals as goal
 
 pub returns-then-not_heads-own : goal.returns-then-not_heads-own
 unfolding start_of start_number first_that_applies
-returns-then-not_heads-own c = simp (← c.not_heads.ensures, c.if-not_heads-own.true, c.zero_head.ensures)
+returns-then-not_heads-own c = simp (← c.not_heads.ensures, c.if-not_heads-own.true)
 
 pub returns-then-proposal-gt1 : goal.returns-then-proposal-gt1
 unfolding start_of start_number first_that_applies
-returns-then-proposal-gt1 c = simp (← c.not_heads.ensures, c.if-not_heads-own.false, lt-ltb _ _ c.if-proposal-gt1.true, c.zero_head-then-proposal-gt1.ensures)
+returns-then-proposal-gt1 c = simp (← c.not_heads.ensures, c.if-not_heads-own.false, lt-ltb _ _ c.if-proposal-gt1.true)
 
 pub overflow_cast-n : goal.overflow_cast-n
 overflow_cast-n c = omega (arith, heads c.args.n (sym c.not_heads.ensures ∙ or_left_false _ _ c.if-not_heads-own.false))

@@ -14,7 +14,7 @@ pub returns-clause-by_index : goal.returns-clause-by_index
 unfolding value_of status_of
 returns-clause-by_index c =
     let here = c.if-phase-head.false in
-    let codes = c.code_of-code.ensures ∙ ap₂ (λ (v t : ℕ). v * 2 + t) c.value_code.ensures c.status_code.ensures in
+    let codes = c.code_of-code.ensures ∙ ap₂ (λ (v t : ℕ). v * 2 + t) c.code.ensures c.code-2.ensures in
     five _
     (c.either.ensures ∙ barred_here _ _ 0 _ _ _ _ _ c.alone-own.ensures here codes c.unless.ensures refl (not_zero _))
     (c.either-2.ensures ∙ barred_here _ _ 1 _ _ _ _ _ c.alone-own.ensures here codes c.unless-2.ensures refl (not_zero _))

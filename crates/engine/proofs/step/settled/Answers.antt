@@ -3,4 +3,4 @@ use Rattle.engine.proofs.step.settled.Goals as goal
 
 pub returns : goal.returns
 unfolding settled
-returns c = simp (c.stated.ensures, c.settled_decision.ensures)
+returns c = simp c.decision_after.ensures

@@ -9,4 +9,4 @@ returns-then-head-eq1 c = simp (eq-eqb _ _ c.if-head-eq1.true, c.bit_with.ensure
 
 pub returns-else-head-eq1 : goal.returns-else-head-eq1
 unfolding step_value bit_with
-returns-else-head-eq1 c = simp (ne_eqb _ _ c.if-head-eq1.false, c.bit_with-else-head-eq1.ensures, c.value_of.ensures)
+returns-else-head-eq1 c = simp (ne_eqb _ _ c.if-head-eq1.false, c.bit_with-else-head-eq1.ensures, c.from_code.ensures)

@@ -1,16 +1,15 @@
-use mathlib.Core.Path.{◌∙◌}
 use Rattle.engine.proofs.Refusing.{stands_clean}
 use Rattle.engine.proofs.Gathering.{missed, before_first, not_7, list_6, list_7, list_8}
-use Rattle.engine.proofs.ticks.refused.Goals as goal
+use Rattle.engine.proofs.ticks.offence.Goals as goal
 
 pub returns-then-breaking-count : goal.returns-then-breaking-count
-returns-then-breaking-count c = c.naming.ensures ∙ list_6 _ _ _ c.first_breaking-breaking.ensures c.if-breaking-count.true
+returns-then-breaking-count c = list_6 _ _ _ c.first_breaking-breaking.ensures c.if-breaking-count.true
 
 pub returns-then-own-count : goal.returns-then-own-count
-returns-then-own-count c = c.naming-then-own-count.ensures ∙ list_7 _ _ _ (missed _ _ _ c.first_breaking-breaking.ensures c.if-breaking-count.false) c.first_own_otherwise-own.ensures c.if-own-count.true
+returns-then-own-count c = list_7 _ _ _ (missed _ _ _ c.first_breaking-breaking.ensures c.if-breaking-count.false) c.first_own_otherwise-own.ensures c.if-own-count.true
 
 pub returns : goal.returns
-returns c = c.naming-2.ensures ∙ list_8 _ _ _ c.requires.at_value c.requires.at_bound (missed _ _ _ c.first_breaking-breaking.ensures c.if-breaking-count.false) (missed _ _ _ c.first_own_otherwise-own.ensures c.if-own-count.false)
+returns c = list_8 _ _ _ c.requires.at_value c.requires.at_bound (missed _ _ _ c.first_breaking-breaking.ensures c.if-breaking-count.false) (missed _ _ _ c.first_own_otherwise-own.ensures c.if-own-count.false)
 
 pub first_breaking-breaking-requires-clause-by_index : goal.first_breaking-breaking-requires-clause-by_index
 first_breaking-breaking-requires-clause-by_index c = λ j b. stands_clean _ _ _ (before_first _ _ _ c.requires.at_value j b)
