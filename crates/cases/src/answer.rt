@@ -9,8 +9,8 @@
 use crate::entry::{answer_vote_ballot, answer_vote_start, answer_vote_tick};
 use crate::number::number_at;
 use crate::print::{malformed, print_answer, print_indexed};
-use codes::{BALLOT_BYTES, RECORD_BYTES, ballot_bytes, head_at, is_record, record_of};
-use rules::Read;
+use codes::{BALLOT_BYTES, RECORD_BYTES, ballot_bytes, head_at, is_record, record_of, zero_head};
+use rules::Refused;
 use std::io::{Print, Result};
 
 // Where the list of a tick begins: after the head and the coin.
@@ -34,12 +34,15 @@ fn answer_read(out: &impl Print, bytes: &[u8]) -> Result<()> {
     if bytes.len() < 4 {
         return malformed(out, b'R');
     }
-    let read = engine::read(number_at(bytes, 0), &bytes[4..]);
-    match read {
-        Read::Accepted(ballot) => print_indexed(out, b'R', 0, 0, &ballot_bytes(ballot)),
-        Read::Refused { number, index } => {
-            print_indexed(out, b'R', number as u32, index, &[0; BALLOT_BYTES])
-        }
+    match engine::read(number_at(bytes, 0), &bytes[4..]) {
+        Ok(ballot) => print_indexed(out, b'R', 0, 0, &ballot_bytes(ballot)),
+        Err(refusal) => print_indexed(
+            out,
+            b'R',
+            refusal.number(),
+            refusal.index(),
+            &[0; BALLOT_BYTES],
+        ),
     }
 }
 
@@ -47,13 +50,14 @@ fn answer_start(out: &impl Print, bytes: &[u8]) -> Result<()> {
     if bytes.len() != 12 {
         return malformed(out, b'S');
     }
-    let started = engine::start(
+    match engine::start(
         number_at(bytes, 0),
         number_at(bytes, 4),
         number_at(bytes, 8),
-    );
-    let head = started.head;
-    print_answer(out, b'S', started.number as u32, &record_of(head))
+    ) {
+        Ok(head) => print_answer(out, b'S', 0, &record_of(head)),
+        Err(refusal) => print_answer(out, b'S', refusal.number(), &record_of(zero_head())),
+    }
 }
 
 fn answer_tick(out: &impl Print, bytes: &[u8]) -> Result<()> {
@@ -62,7 +66,7 @@ fn answer_tick(out: &impl Print, bytes: &[u8]) -> Result<()> {
     }
     tick_head(
         out,
-        &bytes[0..RECORD_BYTES],
+        &bytes[..RECORD_BYTES],
         &bytes[LIST_START..],
         number_at(bytes, RECORD_BYTES),
     )
@@ -72,22 +76,24 @@ fn answer_send(out: &impl Print, bytes: &[u8]) -> Result<()> {
     if !is_record(bytes) {
         return malformed(out, b'B');
     }
-    let written = engine::send(head_at(bytes));
-    let five = written.bytes;
-    print_answer(out, b'B', written.number as u32, &five)
+    match engine::send(head_at(bytes)) {
+        Ok(five) => print_answer(out, b'B', 0, &five),
+        Err(refusal) => print_answer(out, b'B', refusal.number(), &[0; BALLOT_BYTES]),
+    }
 }
 
 fn tick_head(out: &impl Print, head_record: &[u8], list: &[u8], coin: u32) -> Result<()> {
     if !is_record(head_record) {
         return malformed(out, b'T');
     }
-    let ticked = engine::tick(head_at(head_record), list, coin);
-    let head = ticked.head;
-    print_indexed(
-        out,
-        b'T',
-        ticked.number as u32,
-        ticked.index,
-        &record_of(head),
-    )
+    match engine::tick(head_at(head_record), list, coin) {
+        Ok(head) => print_indexed(out, b'T', 0, 0, &record_of(head)),
+        Err(Refused { refusal, head }) => print_indexed(
+            out,
+            b'T',
+            refusal.number(),
+            refusal.index(),
+            &record_of(head),
+        ),
+    }
 }

@@ -6,23 +6,20 @@ use std::io::{Print, Result};
 
 // Prints the answer to one vector, and nothing for a comment or an empty line.
 pub(crate) fn answer_line(out: &impl Print, line: &[u8]) -> Result<()> {
-    if line.len() == 0 {
+    let Some((&letter, text)) = line.split_first() else {
         return Ok(());
-    }
-    let letter = line[0];
+    };
     if letter == b'#' {
         return Ok(());
     }
     let mut bytes = [0u8; 700];
-    let digits = unhex(&line[1..], &mut bytes);
-    if digits.strange | (digits.count % 2 == 1) {
-        return malformed(out, letter);
+    match unhex(text, &mut bytes) {
+        Some(digits) if digits % 2 == 0 && digits <= 1400 => {
+            // An entry for C writes to one part of the bytes while it reads another: it gets them twice.
+            let mut lent = bytes;
+            let count = digits / 2;
+            answer(out, letter, &bytes[..count], &mut lent[..count])
+        }
+        _ => malformed(out, letter),
     }
-    let count = digits.count / 2;
-    if 700 < count {
-        return malformed(out, letter);
-    }
-    // An entry for C writes to one part of the bytes while it reads another: it gets them twice.
-    let mut lent = bytes;
-    answer(out, letter, &bytes[0..count], &mut lent[0..count])
 }

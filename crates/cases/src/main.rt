@@ -38,13 +38,11 @@ fn read_full(mut stdin: Stdin, buffer: &mut [u8]) -> usize
 }
 
 fn answer_lines(out: &impl Print, text: &[u8]) -> Result<()> {
-    let mut at: usize = 0;
-    while at < text.len() {
-        let rest = &text[at..];
-        let end = rest.iter().position(|c| *c == b'\n');
-        let length = end.unwrap_or(rest.len());
-        line::answer_line(out, &rest[..length])?;
-        at += length + 1;
+    let mut rest = text;
+    while !rest.is_empty() {
+        let end = rest.iter().position(|c| *c == b'\n').unwrap_or(rest.len());
+        line::answer_line(out, &rest[..end])?;
+        rest = rest.get(end + 1..).unwrap_or(&[]);
     }
     Ok(())
 }

@@ -39,14 +39,8 @@ fn print_line_end(out: &impl Print, bytes: &[u8]) -> Result<()> {
 
 // Prints two lowercase digits for each byte.
 fn print_bytes(out: &impl Print, bytes: &[u8]) -> Result<()> {
-    let mut i: usize = 0;
-    while i < bytes.len() {
-        print_byte(out, bytes[i])?;
-        i += 1;
+    for byte in bytes {
+        print!(out; "{byte:02x}")?;
     }
     Ok(())
-}
-
-fn print_byte(out: &impl Print, byte: u8) -> Result<()> {
-    print!(out; "{byte:02x}")
 }

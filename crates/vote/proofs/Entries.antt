@@ -7,9 +7,7 @@ use native.Mathlib.Omega.{arith}
 use lib.ListN.{length, replicate}
 use borrow.Author.Tests.{eq-eqb, ne_eqb}
 use Rattle.rules.specs.declared.Head.{Head}
-use Rattle.rules.specs.declared.Started.{Started}
-use Rattle.rules.specs.declared.Ticked.{Ticked}
-use Rattle.rules.specs.declared.Written.{Written}
+use Rattle.rules.specs.Answer.{Started, Ticked, Written}
 use Rattle.rules.specs.Number.{first_that_applies}
 use Rattle.rules.specs.Head.{sound, start_of, send_of}
 use Rattle.rules.specs.Tick.{tick_number, tick_index, tick_of}
@@ -94,20 +92,15 @@ pub send_no_record : (r buffer : List ℕ) → is_record r ≡ false → Sends r
 unfolding send_number_from_c buffer_after_send not_sound first_that_applies
 send_no_record r buffer uncoded = (simp uncoded, simp uncoded)
 
--- what is sent has five bytes
-pub send_five : (h : Head) (w : Written) → w ≡ send_of h → w.number ≡ 0 → length w.bytes ≡ 5
-send_five h w is zero =
-    ap length (ap (λ (x : Written). x.bytes) is ∙ send_bytes h (send_sound h (sym (ap (λ (x : Written). x.number) is) ∙ zero)))
-
 module _ (r buffer : List ℕ) (h : Head) (w : Written) (coded : is_record r ≡ true) (held : h ≡ held_in r) (is : w ≡ send_of h) where
   from_held : w ≡ send_of (head_at r)
   from_held = is ∙ ap send_of (head_held r held (record_length r coded))
 
-  pub send_refused : (w.number ≡ 0 → ⊥) → Sends r buffer 3 (replicate (length buffer) 0)
-  unfolding send_number_from_c buffer_after_send not_sound first_that_applies
+  pub send_refused : (w.number ≡ 0 → ⊥) → Sends r buffer w.number (replicate (length buffer) 0)
+  unfolding send_of send_number_from_c buffer_after_send not_sound first_that_applies
   send_refused some =
       let unsound = send_unsound (head_at r) (λ zero. some (ap (λ (x : Written). x.number) from_held ∙ zero)) in
-      (simp (coded, unsound), simp (coded, unsound))
+      (simp (ap (λ (x : Written). x.number) from_held, coded, unsound), simp (coded, unsound))
 
   module _ (zero : w.number ≡ 0) where
     whole_head : sound (head_at r) ≡ true

@@ -1,3 +1,2 @@
 pub mod Only
-pub mod Whole
 pub mod Entries

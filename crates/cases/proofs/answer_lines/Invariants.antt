@@ -1,6 +1,6 @@
--- `cases::answer_lines` is safe and ends: each line ends at or past where it begins, so what is left of the text grows less.
-use Rattle.std.specs.Prelude.{◌-◌, length}
+-- `cases::answer_lines` ends: each line is taken off what is left of the text.
+use Rattle.std.specs.Prelude.{length}
 use Rattle.cases.proofs.answer_lines.Given as goal
 
-abbrev pub decreases-loop-at : goal.decreases-loop-at
-decreases-loop-at g l = length l.text - l.at
+abbrev pub decreases-loop-rest : goal.decreases-loop-rest
+decreases-loop-rest g l = length l.rest
