@@ -1,3 +1,4 @@
 pub mod Only
 pub mod Held
+pub mod Fives
 mod HighByteFirst

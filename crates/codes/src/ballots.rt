@@ -24,20 +24,20 @@ pub const PHASE_LOW: usize = 4;
 pub fn ballot_at(ballots: &[u8], i: usize) -> Ballot
     ensures { result ≡ cond (ltb i (ballots_of ballots.now)) (ballot_at ballots.now i) zero_ballot }
 {
-    if i < ballots.len() / BALLOT_BYTES {
-        let at = i * BALLOT_BYTES;
-        return Ballot {
-            sender: ballots[at + SENDER],
-            value: Value::from_code(ballots[at + VALUE]),
-            status: Status::from_code(ballots[at + STATUS]),
-            phase: phase_of(ballots[at + PHASE_HIGH], ballots[at + PHASE_LOW]),
-        };
-    }
-    Ballot {
-        sender: 0,
-        value: Value::Zero,
-        status: Status::Undecided,
-        phase: 0,
+    let (fives, _) = ballots.as_chunks::<BALLOT_BYTES>();
+    match fives.get(i) {
+        Some(five) => Ballot {
+            sender: five[SENDER],
+            value: Value::from_code(five[VALUE]),
+            status: Status::from_code(five[STATUS]),
+            phase: phase_of(five[PHASE_HIGH], five[PHASE_LOW]),
+        },
+        None => Ballot {
+            sender: 0,
+            value: Value::Zero,
+            status: Status::Undecided,
+            phase: 0,
+        },
     }
 }
 
