@@ -11,3 +11,4 @@ pub mod Layouts
 pub mod Paper
 pub mod Undivided
 pub mod Rounds
+pub mod Only

@@ -1,0 +1,17 @@
+-- No second answer fits: two answers that both meet a public function's promise are equal. Stated over the promises
+-- themselves, as the functions carry them. In `Post κs a r s`, `κs` are lifetimes, `a` is what the function is handed,
+-- `r` its answer and `s` what it leaves in what it was lent.
+use mathlib.Core.Path.{◌≡◌}
+use Rattle.rules.proofs.Meaning.Answers.{only}
+use Rattle.rules.proofs.Refusal.number.Reads as number
+use Rattle.rules.proofs.Refusal.index.Reads as index
+use Rattle.rules.proofs.DecisionFromValue.from.Reads as from
+
+pub number_only : (κs : _) (a : _) (r r' : _) (s s' : _) → number.Post κs a r s → number.Post κs a r' s' → r ≡ r'
+number_only κs a r r' s s' p q = only p q
+
+pub index_only : (κs : _) (a : _) (r r' : _) (s s' : _) → index.Post κs a r s → index.Post κs a r' s' → r ≡ r'
+index_only κs a r r' s s' p q = only p q
+
+pub decision_from_only : (κs : _) (a : _) (r r' : _) (s s' : _) → from.Post κs a r s → from.Post κs a r' s' → r ≡ r'
+decision_from_only κs a r r' s s' p q = only p q
