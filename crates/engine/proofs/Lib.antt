@@ -6,3 +6,4 @@ pub mod Refusing
 pub mod Looking
 pub mod Barred
 pub mod Gathering
+pub mod Fives

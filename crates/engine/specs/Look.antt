@@ -131,7 +131,7 @@ look_at h l k =
       blanks = said_in l k (highest h l k) 4;
     }
 
--- before the first ballot; and a look that has gone on to index k, with more senders at its phase or at lower ones
+-- before the first ballot; and a look that has gone on to index k, with more senders at its phase
 abbrev pub unlooked : Head → Look
 unlooked h =
     record {
@@ -158,20 +158,6 @@ with_said look k listed said =
       ones = get_or said 2 0;
       ones_decided = get_or said 3 0;
       blanks = get_or said 4 0;
-    }
-
-abbrev pub with_elsewhere : Look → ℕ → ℕ → Look
-with_elsewhere look k elsewhere =
-    record {
-      next = k;
-      phase = look.phase;
-      listed = look.listed;
-      elsewhere = elsewhere;
-      zeros = look.zeros;
-      zeros_decided = look.zeros_decided;
-      ones = look.ones;
-      ones_decided = look.ones_decided;
-      blanks = look.blanks;
     }
 
 -- numbers of heads that fit into a set

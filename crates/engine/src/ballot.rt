@@ -1,9 +1,8 @@
 // One ballot: the ballot rules, and reading it from its bytes.
-ghost use Rattle.std.specs.Prelude.{◌≡◌, ◌<◌};
+ghost use Rattle.std.specs.Prelude.{◌≡◌};
 ghost use Rattle.rules.specs.declared.Read.TheVariants.{Refused};
 ghost use Rattle.rules.specs.Ballot.{class_of, allowed as allowed_of, obeys as obeys_of, breaks_rule};
 ghost use Rattle.rules.specs.Ballot.{read_number, read_index, read_ballot, number_read, index_read, ballot_read};
-ghost use Rattle.rules.specs.Tick.{ballots as ballots_of};
 
 use codes::{
     BALLOT_BYTES, PHASE_HIGH, PHASE_LOW, SENDER, STATUS, VALUE, ballot_at, not_heads, phase_of,
@@ -19,13 +18,13 @@ pub fn read(n: u32, bytes: &[u8]) -> Read
     if not_heads(n) {
         return refusal(1);
     }
-    if bytes.len() != BALLOT_BYTES {
+    let Some(five) = bytes.as_array::<BALLOT_BYTES>() else {
         return refusal(5);
-    }
-    if breaks_rule(n, bytes, 0) {
+    };
+    if breaks_rule(n, five) {
         return refusal(6);
     }
-    Read::Accepted(ballot_at(bytes, 0))
+    Read::Accepted(ballot_at(five, 0))
 }
 
 // One ballot stands at index 0.
@@ -38,21 +37,12 @@ fn refusal(number: u8) -> Read
     }
 }
 
-// Whether the ballot at index i breaks a ballot rule.
-pub(crate) fn breaks_rule(n: u32, ballots: &[u8], i: usize) -> bool
-    requires { i < ballots_of ballots.now }
-    ensures { result ≡ breaks_rule n ballots.now i }
+// Whether a ballot breaks a ballot rule.
+pub(crate) fn breaks_rule(n: u32, five: &[u8; BALLOT_BYTES]) -> bool
+    ensures { result ≡ breaks_rule n five.now 0 }
 {
-    let at = i * BALLOT_BYTES;
-    let phase = phase_of(ballots[at + PHASE_HIGH], ballots[at + PHASE_LOW]);
-    !((wide(ballots[at + SENDER]) < n) & obeys(phase, ballots[at + VALUE], ballots[at + STATUS]))
-}
-
-// A function of its own: to an older toolchain a parameter's byte was below 256, not a slice's element.
-fn wide(byte: u8) -> u32
-    ensures { result ≡ byte }
-{
-    byte as u32
+    let phase = phase_of(five[PHASE_HIGH], five[PHASE_LOW]);
+    !(((five[SENDER] as u32) < n) & obeys(phase, five[VALUE], five[STATUS]))
 }
 
 // The ballot rules, of a phase and the codes of a value and a status.

@@ -2,7 +2,6 @@
 ghost use Rattle.std.specs.Prelude.{◌≡◌, cond, ◌||◌, ℕ, ◌<◌, ◌≤◌, ◌+◌, ◌*◌, length, get_or};
 ghost use Rattle.rules.specs.Ballot.{ballot_at};
 ghost use Rattle.rules.specs.Heard.{member as member_of, set_of};
-ghost use Rattle.rules.specs.Tick.{ballots as ballots_of};
 ghost use Rattle.engine.specs.Look.{code_at, is_within, statuses_of, codes_of, barred_from, alone as alone_of};
 
 use codes::{
@@ -10,28 +9,23 @@ use codes::{
 };
 use rules::{Class, Head};
 
-// Of the ballot at index i.
-pub(crate) fn sender_at(ballots: &[u8], i: usize) -> u8
-    requires { i < ballots_of ballots.now }
-    ensures { result ≡ (ballot_at ballots.now i).sender }
+// Of one ballot.
+pub(crate) fn sender_in(five: &[u8; BALLOT_BYTES]) -> u8
+    ensures { result ≡ (ballot_at five.now 0).sender }
 {
-    ballots[i * BALLOT_BYTES + SENDER]
+    five[SENDER]
 }
 
-pub(crate) fn phase_at(ballots: &[u8], i: usize) -> u16
-    requires { i < ballots_of ballots.now }
-    ensures { result ≡ (ballot_at ballots.now i).phase }
+pub(crate) fn phase_in(five: &[u8; BALLOT_BYTES]) -> u16
+    ensures { result ≡ (ballot_at five.now 0).phase }
 {
-    let at = i * BALLOT_BYTES;
-    phase_of(ballots[at + PHASE_HIGH], ballots[at + PHASE_LOW])
+    phase_of(five[PHASE_HIGH], five[PHASE_LOW])
 }
 
-pub(crate) fn code_at(ballots: &[u8], i: usize) -> usize
-    requires { i < ballots_of ballots.now }
-    ensures { result ≡ code_at ballots.now i }
+pub(crate) fn code_in(five: &[u8; BALLOT_BYTES]) -> usize
+    ensures { result ≡ code_at five.now 0 }
 {
-    let at = i * BALLOT_BYTES;
-    code_of(ballots[at + VALUE], ballots[at + STATUS])
+    code_of(five[VALUE], five[STATUS])
 }
 
 // Two for each value.
@@ -42,12 +36,10 @@ fn code_of(value: u8, status: u8) -> usize
 }
 
 // Whether its sender and codes stand within the bounds.
-pub(crate) fn stands(n: u8, codes: usize, statuses: u8, ballots: &[u8], i: usize) -> bool
-    requires { i < ballots_of ballots.now }
-    ensures { result ≡ is_within n codes statuses ballots.now i }
+pub(crate) fn stands(n: u8, codes: usize, statuses: u8, five: &[u8; BALLOT_BYTES]) -> bool
+    ensures { result ≡ is_within n codes statuses five.now 0 }
 {
-    let at = i * BALLOT_BYTES;
-    (ballots[at + SENDER] < n) & ((ballots[at + STATUS] < statuses) & (code_at(ballots, i) < codes))
+    (five[SENDER] < n) & ((five[STATUS] < statuses) & (code_in(five) < codes))
 }
 
 // The ballot rules at phases of a class, as two bounds.

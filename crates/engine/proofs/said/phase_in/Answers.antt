@@ -1,5 +1,5 @@
 use Rattle.rules.specs.Ballot.{ballot_at}
-use Rattle.engine.proofs.said.phase_at.Goals as goal
+use Rattle.engine.proofs.said.phase_in.Goals as goal
 
 pub returns : goal.returns
 unfolding ballot_at
