@@ -46,12 +46,14 @@ pub(crate) fn breaks_rule(n: u32, five: &[u8; BALLOT_BYTES]) -> bool
 }
 
 // The ballot rules, of a phase and the codes of a value and a status.
+#[tactic(auto, unfolding(rules::specs::Ballot::obeys))]
 pub(crate) fn obeys(phase: u16, value: u8, status: u8) -> bool
     ensures { result ≡ obeys_of phase value status }
 {
     allowed(class(phase), value, status)
 }
 
+#[tactic(auto, unfolding(rules::specs::Ballot::class_of))]
 pub(crate) fn class(phase: u16) -> Class
     ensures { result ≡ class_of phase }
 {
@@ -59,52 +61,21 @@ pub(crate) fn class(phase: u16) -> Class
         0 => Class::Never,
         1 => Class::First,
         2 => Class::Second,
-        _ => {
-            if phase % 2 == 1 {
-                Class::Odd
-            } else {
-                Class::Even
-            }
-        }
+        _ if phase % 2 == 1 => Class::Odd,
+        _ => Class::Even,
     }
 }
 
+#[tactic(auto, unfolding(rules::specs::Ballot::allowed))]
 fn allowed(class: Class, value: u8, status: u8) -> bool
     ensures { result ≡ allowed_of class value status }
 {
-    match class {
-        Class::Never => false,
-        Class::First => match value {
-            0..=1 => match status {
-                0 => true,
-                _ => false,
-            },
-            _ => false,
-        },
-        Class::Second => match value {
-            0..=2 => match status {
-                0 => true,
-                _ => false,
-            },
-            _ => false,
-        },
-        Class::Odd => match value {
-            0..=1 => match status {
-                0..=1 => true,
-                _ => false,
-            },
-            _ => false,
-        },
-        Class::Even => match value {
-            0..=1 => match status {
-                0..=1 => true,
-                _ => false,
-            },
-            2 => match status {
-                0 => true,
-                _ => false,
-            },
-            _ => false,
-        },
+    match (class, value, status) {
+        (Class::First, 0..=1, 0) => true,
+        (Class::Second, 0..=2, 0) => true,
+        (Class::Odd, 0..=1, 0..=1) => true,
+        (Class::Even, 0..=1, 0..=1) => true,
+        (Class::Even, 2, 0) => true,
+        _ => false,
     }
 }

@@ -49,30 +49,26 @@ pub(crate) fn first_of(ballots: &[u8], phase: u16, sender: u8, before: usize) ->
 }
 
 // Most ballots are of other senders, and not read further.
+#[tactic(auto, unfolding(rules::specs::Tick::own_otherwise))]
 fn is_own_otherwise(head: Head, five: &[u8; BALLOT_BYTES]) -> bool
     ensures { result ≡ own_otherwise head (ballot_at five.now 0) }
 {
-    if sender_in(five) != head.own {
-        return false;
-    }
-    own_otherwise(head, ballot_at(five, 0))
+    sender_in(five) == head.own && own_otherwise(head, ballot_at(five, 0))
 }
 
+#[tactic(auto, unfolding(rules::specs::Tick::own_otherwise))]
 fn own_otherwise(head: Head, ballot: Ballot) -> bool
     ensures { result ≡ own_otherwise head ballot }
 {
-    (ballot.sender == head.own)
-        & ((head.phase < ballot.phase)
-            | ((ballot.phase == head.phase) & !same_state(ballot, own_ballot(head))))
+    ballot.sender == head.own
+        && (head.phase < ballot.phase
+            || (ballot.phase == head.phase && !same_state(ballot, own_ballot(head))))
 }
 
 fn is_of(phase: u16, sender: u8, five: &[u8; BALLOT_BYTES]) -> bool
     ensures { result ≡ is_of five.now phase sender 0 }
 {
-    if sender_in(five) != sender {
-        return false;
-    }
-    phase_in(five) == phase
+    sender_in(five) == sender && phase_in(five) == phase
 }
 
 // Whether a ballot is unlike the head under its own number, or unlike what is held.
@@ -84,16 +80,18 @@ pub(crate) fn otherwise(head: Head, five: &[u8; BALLOT_BYTES]) -> bool
         return false;
     }
     let ballot = ballot_at(five, 0);
-    own_otherwise(head, ballot) | held_otherwise(head, ballot)
+    own_otherwise(head, ballot) || held_otherwise(head, ballot)
 }
 
+#[tactic(auto, unfolding(rules::specs::Tick::held_otherwise))]
 fn held_otherwise(head: Head, ballot: Ballot) -> bool
     ensures { result ≡ held_otherwise head ballot }
 {
     let value = ballot.value;
-    (ballot.phase == head.phase) & !stands_under(head, ballot.sender, value)
+    ballot.phase == head.phase && !stands_under(head, ballot.sender, value)
 }
 
+#[tactic(auto, unfolding(rules::specs::Tick::same_state))]
 fn same_state(a: Ballot, b: Ballot) -> bool
     ensures { result ≡ same_state a b }
 {

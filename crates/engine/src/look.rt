@@ -131,14 +131,7 @@ impl Look {
         let mut elsewhere = self.elsewhere;
         for i in self.next..fives.len() {
             let five = &fives[i];
-            if self.phase <= phase_in(five) {
-                return Look {
-                    next: i,
-                    elsewhere,
-                    ..self
-                };
-            }
-            if is_refused_late(elsewhere, head, ballots, i) {
+            if self.phase <= phase_in(five) || is_refused_late(elsewhere, head, ballots, i) {
                 return Look {
                     next: i,
                     elsewhere,
@@ -204,10 +197,7 @@ fn is_refused(barred: u32, listed: u32, said: u32, sender: u8) -> bool
     requires { sender < 32 }
     ensures { result ≡ (member_of sender barred || member_of sender listed) && not (member_of sender said) }
 {
-    if !has(barred | listed, sender) {
-        return false;
-    }
-    !has(said, sender)
+    has(barred | listed, sender) && !has(said, sender)
 }
 
 // Whether a ballot of a lower phase than the look's is refused. Only where its sender has sent another
@@ -237,7 +227,7 @@ fn is_refused_late(elsewhere: u32, head: Head, ballots: &[u8], i: usize) -> bool
 fn is_refused_ahead(head: Head, five: &[u8; BALLOT_BYTES]) -> bool
     ensures { result ≡ breaks_rule head.n five.now 0 || eqb (ballot_at five.now 0).sender head.own }
 {
-    breaks_rule(head.n as u32, five) | (sender_in(five) == head.own)
+    breaks_rule(head.n as u32, five) || sender_in(five) == head.own
 }
 
 // The set where the answer is yes, else nobody.

@@ -10,12 +10,14 @@ use codes::{
 use rules::{Class, Head};
 
 // Of one ballot.
+#[tactic(auto, unfolding(rules::specs::Ballot::ballot_at))]
 pub(crate) fn sender_in(five: &[u8; BALLOT_BYTES]) -> u8
     ensures { result ≡ (ballot_at five.now 0).sender }
 {
     five[SENDER]
 }
 
+#[tactic(auto, unfolding(rules::specs::Ballot::ballot_at))]
 pub(crate) fn phase_in(five: &[u8; BALLOT_BYTES]) -> u16
     ensures { result ≡ (ballot_at five.now 0).phase }
 {

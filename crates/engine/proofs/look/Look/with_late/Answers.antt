@@ -6,6 +6,7 @@ use Rattle.engine.specs.Look.{alone}
 use Rattle.engine.proofs.Fives.{array_of, same_phase, same_sender}
 use Rattle.engine.proofs.Refusing.{clean_low}
 use Rattle.engine.proofs.Looking.{said_of, look_with, sees, late_known, sees_late, goes_on}
+use Rattle.engine.proofs.look.Look.with_late.Goals.{then-self-phase_in-via-then-self-phase_in, then-self-phase_in-via-else-self-phase_in+then-is_refused_late}
 use Rattle.engine.proofs.look.Look.with_late.Goals as goal
 
 pub loop-i-init : goal.loop-i-init
@@ -16,13 +17,10 @@ returns-then-self-phase_in c =
     let here = array_of c.loop-i.i c.as_chunks.ensures.front (omega (arith, c.loop-i-test.true, c.as_chunks.ensures.front_len)) in
     goes_on c.args.head c.args.ballots.now (λ p q. p < q) c.args.self _ _ _ _ (said_of c.args.self) _ refl
     c.loop-i.auto.i (omega (arith, c.loop-i-test.true, c.as_chunks.ensures.front_len)) c.loop-i.invariant.0 c.loop-i.invariant.1
-    (λ b q. absurd (omega (arith, q, c.if-self-phase_in.true, c.phase_in.ensures, same_phase here)))
-
-pub returns-then-is_refused_late : goal.returns-then-is_refused_late
-returns-then-is_refused_late c =
-    goes_on c.args.head c.args.ballots.now (λ p q. p < q) c.args.self _ _ _ _ (said_of c.args.self) _ refl
-    c.loop-i.auto.i (omega (arith, c.loop-i-test.true, c.as_chunks.ensures.front_len)) c.loop-i.invariant.0 c.loop-i.invariant.1
-    (λ b q. sym c.is_refused_late.ensures ∙ c.if-is_refused_late.true)
+    (λ b q. elim c.then-self-phase_in.branch [
+      | then-self-phase_in-via-then-self-phase_in w ↦ absurd (omega (arith, q, w.if-self-phase_in.true, c.phase_in.ensures, same_phase here))
+      | then-self-phase_in-via-else-self-phase_in+then-is_refused_late w ↦ sym w.is_refused_late.ensures ∙ w.if-is_refused_late.true
+    ])
 
 pub alone-elsewhere-requires : goal.alone-elsewhere-requires
 alone-elsewhere-requires c =
