@@ -10,9 +10,7 @@ ghost use Rattle.engine.specs.Look.{Fits, Looks, GoesOn, KnownIn, code_by, forem
 
 use crate::ballot::{breaks_rule, class};
 use crate::list::{first_of, otherwise};
-use crate::said::{
-    alone, barred_from, code_in, codes_of, has, phase_in, sender_in, stands, statuses_of,
-};
+use crate::said::{alone, barred_from, bounds_of, code_in, has, phase_in, sender_in, stands};
 use codes::{BALLOT_BYTES, lowest, status_of, value_of};
 use rules::{Ballot, Head};
 
@@ -78,8 +76,7 @@ impl Look {
         ensures { GoesOn head ballots.now (λ p q. p ≡ q) self result }
     {
         let (fives, _) = ballots.as_chunks::<BALLOT_BYTES>();
-        let codes = codes_of(class(self.phase));
-        let statuses = statuses_of(class(self.phase));
+        let bounds = bounds_of(class(self.phase));
         let barred = barred_from(head, self.phase);
         let mut listed = self.listed;
         let mut said = [
@@ -91,7 +88,7 @@ impl Look {
         ];
         for i in self.next..fives.len() {
             let five = &fives[i];
-            if !((phase_in(five) == self.phase) & stands(head.n, codes, statuses, five)) {
+            if !((phase_in(five) == self.phase) & stands(head.n, bounds, five)) {
                 return self.with_said(i, listed, said);
             }
             let sender = sender_in(five);
@@ -164,18 +161,14 @@ impl Look {
             return self;
         }
         let sender = alone(sender_in(five));
-        let code = code_in(five);
-        Look {
-            next: self.next + 1,
+        let mut said = [0; 5];
+        said[code_in(five)] = sender;
+        let risen = Look {
             phase: phase_in(five),
-            listed: sender,
             elsewhere: self.elsewhere | self.listed,
-            zeros: kept(code == 0, sender),
-            zeros_decided: kept(code == 1, sender),
-            ones: kept(code == 2, sender),
-            ones_decided: kept(code == 3, sender),
-            blanks: kept(code == 4, sender),
-        }
+            ..self
+        };
+        risen.with_said(self.next + 1, sender, said)
     }
 
     // What head s says at the look's phase, its value and status in one number.
@@ -228,13 +221,6 @@ fn is_refused_ahead(head: Head, five: &[u8; BALLOT_BYTES]) -> bool
     ensures { result ≡ breaks_rule head.n five.now 0 || eqb (ballot_at five.now 0).sender head.own }
 {
     breaks_rule(head.n as u32, five) || sender_in(five) == head.own
-}
-
-// The set where the answer is yes, else nobody.
-fn kept(yes: bool, set: u32) -> u32
-    ensures { result ≡ cond yes set 0 }
-{
-    if yes { set } else { 0 }
 }
 
 // "a ballot of the highest phase; among several senders the lowest number gives it". Where nobody is

@@ -37,36 +37,33 @@ fn code_of(value: u8, status: u8) -> usize
     value as usize * 2 + status as usize
 }
 
+// The ballot rules at phases of a class, as two bounds: how many statuses stand, and how many of the
+// numbers of value and status.
+#[derive(Clone, Copy)]
+pub(crate) struct Bounds {
+    statuses: u8,
+    codes: usize,
+}
+
+pub(crate) fn bounds_of(class: Class) -> Bounds
+    ensures statuses { result.statuses ≡ statuses_of class }
+    ensures codes { result.codes ≡ codes_of class }
+{
+    let (statuses, codes) = match class {
+        Class::Never => (0, 0),
+        Class::First => (1, 4),
+        Class::Second => (1, 5),
+        Class::Odd => (2, 4),
+        Class::Even => (2, 5),
+    };
+    Bounds { statuses, codes }
+}
+
 // Whether its sender and codes stand within the bounds.
-pub(crate) fn stands(n: u8, codes: usize, statuses: u8, five: &[u8; BALLOT_BYTES]) -> bool
-    ensures { result ≡ is_within n codes statuses five.now 0 }
+pub(crate) fn stands(n: u8, bounds: Bounds, five: &[u8; BALLOT_BYTES]) -> bool
+    ensures { result ≡ is_within n bounds.codes bounds.statuses five.now 0 }
 {
-    (five[SENDER] < n) & ((five[STATUS] < statuses) & (code_in(five) < codes))
-}
-
-// The ballot rules at phases of a class, as two bounds.
-pub(crate) fn codes_of(class: Class) -> usize
-    ensures { result ≡ codes_of class }
-{
-    match class {
-        Class::Never => 0,
-        Class::First => 4,
-        Class::Second => 5,
-        Class::Odd => 4,
-        Class::Even => 5,
-    }
-}
-
-pub(crate) fn statuses_of(class: Class) -> u8
-    ensures { result ≡ statuses_of class }
-{
-    match class {
-        Class::Never => 0,
-        Class::First => 1,
-        Class::Second => 1,
-        Class::Odd => 2,
-        Class::Even => 2,
-    }
+    (five[SENDER] < n) & ((five[STATUS] < bounds.statuses) & (code_in(five) < bounds.codes))
 }
 
 // Who may not say what at the phase, the head's or a higher one.

@@ -5,7 +5,7 @@ use native.Mathlib.Omega.{arith}
 use lib.ListN.{length-set}
 use Rattle.rules.proofs.Counting.Below.{none_more}
 use Rattle.engine.specs.Look.{alone, codes_of, statuses_of}
-use Rattle.engine.proofs.Fives.{array_of, same_phase, same_sender, same_code, same_bounds}
+use Rattle.engine.proofs.Fives.{array_of, same_sender, same_code}
 use Rattle.engine.proofs.Refusing.{low_sender, low_code, code_read, test_passed, test_failed, refused_present}
 use Rattle.engine.proofs.Looking.{look_with, sees, phase_least, sees_present, goes_on}
 use Rattle.engine.proofs.look.Look.with_present.Goals as goal
@@ -21,18 +21,18 @@ returns-then-not-phase_in-self c =
     let here = array_of c.loop-i.i c.as_chunks.ensures.front (omega (arith, c.loop-i-test.true, c.as_chunks.ensures.front_len)) in
     goes_on c.args.head c.args.ballots.now (λ p q. p ≡ q) c.args.self _ _ _ _ c.loop-i.said _ c.with_said.ensures
     c.loop-i.auto.i (omega (arith, c.loop-i-test.true, c.as_chunks.ensures.front_len)) c.loop-i.invariant.1 c.loop-i.invariant.2
-    (λ b q. test_failed c.args.head c.args.ballots.now c.loop-i.i _ _ _ _ _ (c.phase_in.ensures ∙ same_phase here) (c.codes_of-codes.ensures ∙ ap codes_of c.class.ensures) (c.statuses_of-statuses.ensures ∙ ap statuses_of c.class-2.ensures) (c.stands.ensures ∙ same_bounds here c.args.head.n _ _) (ap not c.if-not-phase_in-self.true) q)
+    (λ b q. test_failed c.args.head c.args.ballots.now c.loop-i.i here _ _ _ _ _ c.phase_in.ensures (c.bounds_of-bounds.ensures.codes ∙ ap codes_of c.class.ensures) (c.bounds_of-bounds.ensures.statuses ∙ ap statuses_of c.class.ensures) c.stands.ensures (ap not c.if-not-phase_in-self.true) q)
 
 pub is_refused-requires : goal.is_refused-requires
 is_refused-requires c =
     let here = array_of c.loop-i.i c.as_chunks.ensures.front (omega (arith, c.loop-i-test.true, c.as_chunks.ensures.front_len)) in
-    let test = test_passed c.args.head c.args.ballots.now c.loop-i.i _ _ _ _ _ (c.phase_in.ensures ∙ same_phase here) (c.codes_of-codes.ensures ∙ ap codes_of c.class.ensures) (c.statuses_of-statuses.ensures ∙ ap statuses_of c.class-2.ensures) (c.stands.ensures ∙ same_bounds here c.args.head.n _ _) (ap not c.if-not-phase_in-self.false) in
+    let test = test_passed c.args.head c.args.ballots.now c.loop-i.i here _ _ _ _ _ c.phase_in.ensures (c.bounds_of-bounds.ensures.codes ∙ ap codes_of c.class.ensures) (c.bounds_of-bounds.ensures.statuses ∙ ap statuses_of c.class.ensures) c.stands.ensures (ap not c.if-not-phase_in-self.false) in
     omega (arith, c.sender_in-sender.ensures, same_sender here, low_sender c.args.head.n c.args.ballots.now c.loop-i.i test.1, c.requires.fits.0)
 
 pub returns-then-is_refused : goal.returns-then-is_refused
 returns-then-is_refused c =
     let here = array_of c.loop-i.i c.as_chunks.ensures.front (omega (arith, c.loop-i-test.true, c.as_chunks.ensures.front_len)) in
-    let test = test_passed c.args.head c.args.ballots.now c.loop-i.i _ _ _ _ _ (c.phase_in.ensures ∙ same_phase here) (c.codes_of-codes.ensures ∙ ap codes_of c.class.ensures) (c.statuses_of-statuses.ensures ∙ ap statuses_of c.class-2.ensures) (c.stands.ensures ∙ same_bounds here c.args.head.n _ _) (ap not c.if-not-phase_in-self.false) in
+    let test = test_passed c.args.head c.args.ballots.now c.loop-i.i here _ _ _ _ _ c.phase_in.ensures (c.bounds_of-bounds.ensures.codes ∙ ap codes_of c.class.ensures) (c.bounds_of-bounds.ensures.statuses ∙ ap statuses_of c.class.ensures) c.stands.ensures (ap not c.if-not-phase_in-self.false) in
     let low : c.code_in-code.result < 5 = omega (arith, c.code_in-code.ensures, same_code here, low_code c.args.head.n c.args.ballots.now c.loop-i.i test.1) in
     let code = c.code_in-code.ensures ∙ same_code here ∙ code_read c.args.head.n c.args.ballots.now c.loop-i.i test.1 in
     goes_on c.args.head c.args.ballots.now (λ p q. p ≡ q) c.args.self _ _ _ _ c.loop-i.said _ c.with_said-then-is_refused.ensures
@@ -42,13 +42,13 @@ returns-then-is_refused c =
 pub alone-one-requires : goal.alone-one-requires
 alone-one-requires c =
     let here = array_of c.loop-i.i c.as_chunks.ensures.front (omega (arith, c.loop-i-test.true, c.as_chunks.ensures.front_len)) in
-    let test = test_passed c.args.head c.args.ballots.now c.loop-i.i _ _ _ _ _ (c.phase_in.ensures ∙ same_phase here) (c.codes_of-codes.ensures ∙ ap codes_of c.class.ensures) (c.statuses_of-statuses.ensures ∙ ap statuses_of c.class-2.ensures) (c.stands.ensures ∙ same_bounds here c.args.head.n _ _) (ap not c.if-not-phase_in-self.false) in
+    let test = test_passed c.args.head c.args.ballots.now c.loop-i.i here _ _ _ _ _ c.phase_in.ensures (c.bounds_of-bounds.ensures.codes ∙ ap codes_of c.class.ensures) (c.bounds_of-bounds.ensures.statuses ∙ ap statuses_of c.class.ensures) c.stands.ensures (ap not c.if-not-phase_in-self.false) in
     omega (arith, c.sender_in-sender.ensures, same_sender here, low_sender c.args.head.n c.args.ballots.now c.loop-i.i test.1, c.requires.fits.0)
 
 pub loop-i-preserved : goal.loop-i-preserved
 loop-i-preserved c =
     let here = array_of c.loop-i.i c.as_chunks.ensures.front (omega (arith, c.loop-i-test.true, c.as_chunks.ensures.front_len)) in
-    let test = test_passed c.args.head c.args.ballots.now c.loop-i.i _ _ _ _ _ (c.phase_in.ensures ∙ same_phase here) (c.codes_of-codes.ensures ∙ ap codes_of c.class.ensures) (c.statuses_of-statuses.ensures ∙ ap statuses_of c.class-2.ensures) (c.stands.ensures ∙ same_bounds here c.args.head.n _ _) (ap not c.if-not-phase_in-self.false) in
+    let test = test_passed c.args.head c.args.ballots.now c.loop-i.i here _ _ _ _ _ c.phase_in.ensures (c.bounds_of-bounds.ensures.codes ∙ ap codes_of c.class.ensures) (c.bounds_of-bounds.ensures.statuses ∙ ap statuses_of c.class.ensures) c.stands.ensures (ap not c.if-not-phase_in-self.false) in
     let low : c.code_in-code.result < 5 = omega (arith, c.code_in-code.ensures, same_code here, low_code c.args.head.n c.args.ballots.now c.loop-i.i test.1) in
     let code = c.code_in-code.ensures ∙ same_code here ∙ code_read c.args.head.n c.args.ballots.now c.loop-i.i test.1 in (
       length-set c.loop-i.said c.code_in-code.result _ ∙ c.loop-i.invariant.0,
