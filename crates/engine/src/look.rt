@@ -6,13 +6,13 @@ ghost use Rattle.rules.specs.Ballot.{ballot_at, breaks_rule};
 ghost use Rattle.rules.specs.Heard.{member as member_of};
 ghost use Rattle.rules.specs.Tick.{ballots as ballots_of};
 ghost use Rattle.engine.specs.Look.{refused, look_at, unlooked as unlooked_of, with_said};
-ghost use Rattle.engine.specs.Look.{Fits, Looks, GoesOn, KnownIn, code_by, foremost as foremost_of};
+ghost use Rattle.engine.specs.Look.{Fits, Looks, GoesOn, KnownIn, value_by, status_by, foremost as foremost_of};
 
 use crate::ballot::{breaks_rule, class};
 use crate::list::{first_of, otherwise};
 use crate::said::{alone, barred_from, bounds_of, code_in, has, phase_in, sender_in, stands};
-use codes::{BALLOT_BYTES, lowest, status_of, value_of};
-use rules::{Ballot, Head};
+use codes::{BALLOT_BYTES, lowest};
+use rules::{Ballot, Head, Status, Value};
 
 // What the first `next` ballots say, none of them refused. `phase`: the highest, the head's own
 // among them. Of the ballots of that phase: `listed`, who sent one, and, by value and status, who
@@ -31,7 +31,8 @@ pub struct Look {
 }
 
 // The look at the first refused ballot, or at the end of the list. In each turn it takes the ballots of
-// the highest phase that come next, then the late ones, then one from ahead.
+// the highest phase that come next, then the late ones, then one from ahead. A `while`: how far a turn
+// goes is known only after it, so no range and no iterator gives the turns.
 pub(crate) fn looked(head: Head, ballots: &[u8]) -> Look
     requires { Fits head }
     ensures { result ≡ look_at head ballots.now
@@ -68,6 +69,8 @@ fn unlooked(head: Head) -> Look
     }
 }
 
+// A struct of head and ballots with `Fits` as its ghost field was no shorter: `Looks` speaks of a look
+// beside the two, so each stage would name all three as here.
 impl Look {
     // With the ballots of the look's phase that come next, up to one of another phase or one refused.
     fn with_present(self, head: Head, ballots: &[u8]) -> Look
@@ -171,16 +174,29 @@ impl Look {
         risen.with_said(self.next + 1, sender, said)
     }
 
-    // What head s says at the look's phase, its value and status in one number.
-    fn code_by(self, s: u8) -> u8
+    // What head s says at the look's phase.
+    fn value_by(self, s: u8) -> Value
         requires { s < 32 }
-        ensures { result ≡ code_by self s }
+        ensures { result ≡ value_by self s }
     {
-        code_with(
-            ((self.ones | self.ones_decided) >> s) % 2 == 1,
-            (self.blanks >> s) % 2 == 1,
-            ((self.zeros_decided | self.ones_decided) >> s) % 2 == 1,
-        )
+        if has(self.blanks, s) {
+            Value::Blank
+        } else if has(self.ones | self.ones_decided, s) {
+            Value::One
+        } else {
+            Value::Zero
+        }
+    }
+
+    fn status_by(self, s: u8) -> Status
+        requires { s < 32 }
+        ensures { result ≡ status_by self s }
+    {
+        if has(self.zeros_decided | self.ones_decided, s) {
+            Status::Decided
+        } else {
+            Status::Undecided
+        }
     }
 }
 
@@ -229,25 +245,10 @@ pub(crate) fn foremost(look: Look) -> Ballot
     ensures { result ≡ foremost_of look }
 {
     let sender = (lowest(look.listed) % 32) as u8;
-    let code = look.code_by(sender);
     Ballot {
-        sender: sender,
-        value: value_of(code / 2),
-        status: status_of(code % 2),
+        sender,
+        value: look.value_by(sender),
+        status: look.status_by(sender),
         phase: look.phase,
-    }
-}
-
-// The number that three answers tell. By branches: with sums of digits the longest run took 3% more.
-fn code_with(one: bool, blank: bool, decided: bool) -> u8
-    ensures { result ≡ cond blank 4 (cond one (cond decided 3 2) (cond decided 1 0)) }
-{
-    if blank {
-        return 4;
-    }
-    if one {
-        if decided { 3 } else { 2 }
-    } else {
-        if decided { 1 } else { 0 }
     }
 }
