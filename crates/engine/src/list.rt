@@ -72,6 +72,7 @@ fn is_of(phase: u16, sender: u8, five: &[u8; BALLOT_BYTES]) -> bool
 }
 
 // Whether a ballot is unlike the head under its own number, or unlike what is held.
+#[tactic(auto, using(crate::proofs::Refusing::late_otherwise))]
 pub(crate) fn otherwise(head: Head, five: &[u8; BALLOT_BYTES]) -> bool
     ensures { result ≡ own_otherwise head (ballot_at five.now 0)
         || held_otherwise head (ballot_at five.now 0) }

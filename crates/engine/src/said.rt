@@ -98,6 +98,7 @@ fn unless(yes: bool, set: u32) -> u32
     if yes { 0 } else { set }
 }
 
+#[tactic(auto, using(crate::proofs::Barred::either_set))]
 pub(crate) fn either(a: u32, b: u32, c: u32) -> u32
     ensures { result ≡ set_of 32 (λ s. member_of s a || (member_of s b || member_of s c)) }
 {
