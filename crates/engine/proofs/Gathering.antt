@@ -11,6 +11,8 @@ use lib.ListN.{length, get_or}
 use borrow.Author.Tests.{ltb-true, lt-ltb, le-ltb, ne_eqb}
 use Rattle.rules.specs.declared.Value.{Value}
 use Rattle.rules.specs.declared.Value.TheVariants.{Zero, One, Blank}
+use Rattle.rules.specs.declared.Status.{Status}
+use Rattle.rules.specs.declared.Status.TheVariants.{Undecided, Decided}
 use Rattle.rules.specs.declared.Ballot.{Ballot}
 use Rattle.rules.specs.declared.Head.{Head}
 use Rattle.rules.specs.Answer.{Ticked}
@@ -28,10 +30,10 @@ use Rattle.rules.proofs.Meaning.Meanings.{means_sound}
 use Rattle.rules.proofs.OneTick.Leader.{means_ahead, Leads, leader_leads, leader_highest}
 use Rattle.rules.proofs.OneTick.Senders.{Moves, stays, copies, moves}
 use Rattle.engine.specs.declared.look.Look.{Look}
-use Rattle.engine.specs.Look.{refused, code, ballot_by, highest, is_said, said_in, look_at, Looks, Fits, code_by, foremost, shown, list_number, listened}
+use Rattle.engine.specs.Look.{refused, code, highest, is_said, said_in, look_at, Looks, Fits, value_by, status_by, foremost, shown, list_number, listened}
 use Rattle.engine.proofs.Growing.{highest_most, highest_least, highest_within}
-use Rattle.engine.proofs.Refusing.{status_low, code_low, stands_clean, clean_low, ballot_by_lem, one_code}
-use Rattle.engine.proofs.Looking.{five, said_of, sees}
+use Rattle.engine.proofs.Refusing.{status_low, code_low, stands_clean, clean_low, one_code}
+use Rattle.engine.proofs.Looking.{said_of, sees}
 
 -- ---- the first that is refused
 
@@ -159,10 +161,24 @@ two_codes v b =
         go (yes z) = inl (omega arith)
         go (no n) = inr (omega (arith, n, status_low b.status))
 
--- a code, by what its value and status are
-by_code : (c : ℕ) → c < 5
-    → cond (eqb c 4) 4 (cond (eqb c 2 || eqb c 3) (cond (eqb c 1 || eqb c 3) 3 2) (cond (eqb c 1 || eqb c 3) 1 0)) ≡ c
-by_code = five _ refl refl refl refl refl
+-- a value and a status, by what their code is
+value_told : (v : Value) (t : Status) → value_code v * 2 + status_code t < 5
+    → cond (eqb (value_code v * 2 + status_code t) 4) Blank (cond (eqb (value_code v * 2 + status_code t) 2 || eqb (value_code v * 2 + status_code t) 3) One Zero) ≡ v
+value_told Zero Undecided b = refl
+value_told Zero Decided b = refl
+value_told One Undecided b = refl
+value_told One Decided b = refl
+value_told Blank Undecided b = refl
+value_told Blank Decided b = absurd (omega arith)
+
+status_told : (v : Value) (t : Status) → value_code v * 2 + status_code t < 5
+    → cond (eqb (value_code v * 2 + status_code t) 1 || eqb (value_code v * 2 + status_code t) 3) Decided Undecided ≡ t
+status_told Zero Undecided b = refl
+status_told Zero Decided b = refl
+status_told One Undecided b = refl
+status_told One Decided b = refl
+status_told Blank Undecided b = refl
+status_told Blank Decided b = absurd (omega arith)
 
 -- who said a value, decided or not
 said_value : (l : List ℕ) (k p : ℕ) (v : Value) (s : ℕ)
@@ -251,18 +267,19 @@ module _ (h : Head) (l : List ℕ) (look : Look) (is : Looks h l look) (end : lo
         (means_some (λ j. means_and (means_eq _ _) (means_and (means_eq _ _) (means_eq _ _))))))
         (means_eq (code best) c)
 
-    code_said : code_by look best.sender ≡ code best
-    code_said =
-        let few = code_low h.n l (leader l) (stands_clean h l (leader l) (none (leader l) leads.within)) in
-        let or = member_or best.sender in
-        simp (or look.ones, or look.zeros_decided, said 1 refl, said 2 refl, said 3 refl, said 4 refl)
-        (by_code (code best) few)
+    few : code best < 5
+    few = code_low h.n l (leader l) (stands_clean h l (leader l) (none (leader l) leads.within))
+
+    value_said : value_by look best.sender ≡ best.value
+    value_said =
+        simp (member_or best.sender look.ones, said 2 refl, said 3 refl, said 4 refl) (value_told best.value best.status few)
+
+    status_said : status_by look best.sender ≡ best.status
+    status_said =
+        simp (member_or best.sender look.zeros_decided, said 1 refl, said 3 refl) (status_told best.value best.status few)
 
     foremost_leads : foremost look ≡ best
-    foremost_leads =
-        ap (λ (s : ℕ). ballot_by s (code_by look s) look.phase) lowest
-        ∙ ap₂ (ballot_by best.sender) code_said (sym phase)
-        ∙ ballot_by_lem best
+    foremost_leads = simp (lowest, value_said, status_said, ← phase)
 
   -- the look's phase is the one that step 2 leaves
   moved_phase : (moved h l).phase ≡ look.phase

@@ -7,3 +7,4 @@ pub mod Looking
 pub mod Barred
 pub mod Gathering
 mod Derived
+pub mod Fives

@@ -9,6 +9,7 @@ use lib.Dec.{eqb, lit<}
 use lib.ListN.{length, get_or, set}
 use lib.Seq.{get_or-set_same, get_or-set_other}
 use lib.Bits.{bit_or}
+use borrow.Author.Tests.{eq-eqb, ne_eqb}
 use Rattle.rules.specs.declared.Head.{Head}
 use Rattle.rules.specs.Below.{some, first}
 use Rattle.rules.specs.Ballot.{ballot_at}
@@ -137,23 +138,28 @@ module _ (h : Head) (l : List ℕ) where
     )
 
     -- with one of a higher phase
-    pub sees_ahead : (c a : ℕ) → p < (ballot_at l i).phase → c ≡ code (ballot_at l i) → a ≡ alone (ballot_at l i).sender
-        → Sees h l (i + 1) (ballot_at l i).phase a (bit_or elsewhere listed) (cond (eqb c 0) a 0 ∷ cond (eqb c 1) a 0 ∷ cond (eqb c 2) a 0 ∷ cond (eqb c 3) a 0 ∷ cond (eqb c 4) a 0 ∷ [])
-    sees_ahead c a b d w =
+    pub sees_ahead : (c a : ℕ) → p < (ballot_at l i).phase → c ≡ code (ballot_at l i) → c < 5 → a ≡ alone (ballot_at l i).sender
+        → Sees h l (i + 1) (ballot_at l i).phase a (bit_or elsewhere listed) (set (0 ∷ 0 ∷ 0 ∷ 0 ∷ 0 ∷ []) c a)
+    sees_ahead c a b d few w =
         let most : (j : ℕ) → j < i → (ballot_at l j).phase ≤ p = λ j m. omega (arith, highest_most h l i j m, s.0) in (
           sym (highest_rises h l i (omega (arith, s.0))),
           w ∙ listed_begins l i p (ballot_at l i).phase most b refl,
           ap (λ (x : ℕ). bit_or x listed) s.2 ∙ ap (bit_or (late_in l i p)) s.1 ∙ late_begins l i p (ballot_at l i).phase most b refl,
-          five (λ k. get_or (cond (eqb c 0) a 0 ∷ cond (eqb c 1) a 0 ∷ cond (eqb c 2) a 0 ∷ cond (eqb c 3) a 0 ∷ cond (eqb c 4) a 0 ∷ []) k 0 ≡ said_in l (i + 1) (ballot_at l i).phase k)
-              (one most 0) (one most 1) (one most 2) (one most 3) (one most 4),
+          λ k m. one k m ∙ ap (λ (x : ℕ). cond (eqb x k) a 0) d ∙ ap (λ (x : ℕ). cond (eqb (code (ballot_at l i)) k) x 0) w ∙ said_begins l i p (ballot_at l i).phase most b refl k,
         )
       where
-        one : ((j : ℕ) → j < i → (ballot_at l j).phase ≤ p) → (k : ℕ)
-            → cond (eqb c k) a 0 ≡ said_in l (i + 1) (ballot_at l i).phase k
-        one most k =
-            ap (λ (x : ℕ). cond (eqb x k) a 0) d
-            ∙ ap (λ (x : ℕ). cond (eqb (code (ballot_at l i)) k) x 0) w
-            ∙ said_begins l i p (ballot_at l i).phase most b refl k
+        one : (k : ℕ) → k < 5 → get_or (set (0 ∷ 0 ∷ 0 ∷ 0 ∷ 0 ∷ []) c a) k 0 ≡ cond (eqb c k) a 0
+        one k m = go (ℕ_discrete c k)
+          where
+            go : Dec (c ≡ k) → get_or (set (0 ∷ 0 ∷ 0 ∷ 0 ∷ 0 ∷ []) c a) k 0 ≡ cond (eqb c k) a 0
+            go (yes q) =
+                ap (λ (x : ℕ). get_or (set (0 ∷ 0 ∷ 0 ∷ 0 ∷ 0 ∷ []) c a) x 0) (sym q)
+                ∙ get_or-set_same (0 ∷ 0 ∷ 0 ∷ 0 ∷ 0 ∷ []) c a 0 few
+                ∙ sym (ap (λ (t : Bool). cond t a 0) (eq-eqb c k q))
+            go (no n) =
+                get_or-set_other (0 ∷ 0 ∷ 0 ∷ 0 ∷ 0 ∷ []) c k a 0 (λ z. n (sym z))
+                ∙ five (λ j. ◌≡◌ {A = ℕ} (get_or (0 ∷ 0 ∷ 0 ∷ 0 ∷ 0 ∷ []) j 0) 0) refl refl refl refl refl k m
+                ∙ sym (ap (λ (t : Bool). cond t a 0) (ne_eqb c k n))
 
   -- a look that goes on to index i
   pub goes_on : (R : ℕ → ℕ → Type 0) (from : Look) (i p listed elsewhere : ℕ) (said : List ℕ) (look : Look)

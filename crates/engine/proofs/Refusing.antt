@@ -27,6 +27,7 @@ use Rattle.rules.proofs.Meaning.Meanings.{value_back, status_back}
 use Rattle.rules.proofs.Meaning.Accepted.{value_code_back, status_code_back}
 use Rattle.engine.specs.Look.{refused, code, code_at, is_within, KnownIn, statuses_of, codes_of, ballot_by, barred_from, highest, is_of, is_said, listed_in, said_in, Fits}
 use Rattle.engine.proofs.Bounds.{two_bounds}
+use Rattle.engine.proofs.Fives.{StandsAt, same_sender, same_phase, same_rule, same_bounds}
 use Rattle.engine.proofs.Growing.{highest_most, highest_least}
 
 -- ---- a ballot that breaks no rule
@@ -165,8 +166,14 @@ module _ (h : Head) (l : List ℕ) (i : ℕ) where
   clean_low f e = omega (arith, low_sender h.n l i (stands_clean e), f.0)
 
   -- the test of the hot loop: of the phase, and within its bounds
-  module _ (p x codes statuses : ℕ) (t : Bool) (phase : x ≡ (ballot_at l i).phase) (c : codes ≡ codes_of (class_of p)) (d : statuses ≡ statuses_of (class_of p))
-      (test : t ≡ is_within h.n codes statuses l i) where
+  module _ {five : List ℕ} (at : StandsAt five l i) (p x codes statuses : ℕ) (t : Bool) (is : x ≡ (ballot_at five 0).phase)
+      (c : codes ≡ codes_of (class_of p)) (d : statuses ≡ statuses_of (class_of p)) (within : t ≡ is_within h.n codes statuses five 0) where
+    phase : x ≡ (ballot_at l i).phase
+    phase = is ∙ same_phase at
+
+    test : t ≡ is_within h.n codes statuses l i
+    test = within ∙ same_bounds at h.n codes statuses
+
     pub test_passed : not (eqb x p && t) ≡ false → ((ballot_at l i).phase ≡ p) × (breaks_rule h.n l i ≡ false)
     test_passed e =
         let both = not-false _ e in
@@ -199,14 +206,16 @@ module _ (h : Head) (l : List ℕ) (i : ℕ) where
       (λ j b. means_false (means_differ (ballot_at l j) (ballot_at l i)) (λ r. never (sym absent ∙ ap (λ (s : ℕ). member s elsewhere) (sym r.0.1) ∙ known j b r.0.0 (omega (arith, low_sender h.n l i e, f.0, r.0.1)))))
 
   -- from ahead
-  pub refused_ahead : highest h l i < (ballot_at l i).phase
-      → breaks_rule h.n l i || eqb (ballot_at l i).sender h.own ≡ refused h l i
+  pub refused_ahead : {five : List ℕ} → StandsAt five l i → highest h l i < (ballot_at l i).phase
+      → breaks_rule h.n five 0 || eqb (ballot_at five 0).sender h.own ≡ refused h l i
   unfolding refused contradicts own_otherwise held_otherwise
-  refused_ahead above =
+  refused_ahead at above =
       let apart : earlier ≡ false = some_not i (λ j. differ (ballot_at l j) (ballot_at l i)) (λ j b. means_false (means_differ (ballot_at l j) (ballot_at l i)) (λ r. absurd (omega (arith, highest_most h l i j b, r.0.0)))) in
       let higher : ltb h.phase (ballot_at l i).phase ≡ true = lt-ltb h.phase (ballot_at l i).phase (omega (arith, highest_least h l i)) in
       let away : eqb (ballot_at l i).phase h.phase ≡ false = ne_eqb (ballot_at l i).phase h.phase (λ q. omega (arith, highest_least h l i)) in
-      ap (λ (t : Bool). breaks_rule h.n l i || t) (sym (pick (eqb (ballot_at l i).sender h.own))) ∙ simp (apart, higher, away)
+      ap₂ (λ (a : Bool) (s : ℕ). a || eqb s h.own) (same_rule at h.n) (same_sender at)
+      ∙ ap (λ (t : Bool). breaks_rule h.n l i || t) (sym (pick (eqb (ballot_at l i).sender h.own)))
+      ∙ simp (apart, higher, away)
     where
       pick : (s : Bool) → (s && true) || false ≡ s
       pick true = refl

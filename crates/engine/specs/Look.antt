@@ -2,6 +2,10 @@
 -- ballots shows.
 use Rattle.std.specs.Prelude.{ℕ, zero, suc, ◌+◌, ◌*◌, ◌/◌, ◌%◌, ◌≤◌, ◌<◌, ◌≡◌, List, [], ◌∷◌, Bool, true, false, cond, ◌&&◌, ◌||◌, ltb, eqb, get_or}
 use Rattle.std.specs.Int.Bits.{bit_or}
+use Rattle.rules.specs.declared.Value.{Value}
+use Rattle.rules.specs.declared.Value.TheVariants.{Zero, One, Blank}
+use Rattle.rules.specs.declared.Status.{Status}
+use Rattle.rules.specs.declared.Status.TheVariants.{Undecided, Decided}
 use Rattle.rules.specs.declared.Ballot.{Ballot}
 use Rattle.rules.specs.declared.Head.{Head}
 use Rattle.rules.specs.Answer.{Ticked}
@@ -131,7 +135,7 @@ look_at h l k =
       blanks = said_in l k (highest h l k) 4;
     }
 
--- before the first ballot; and a look that has gone on to index k, with more senders at its phase or at lower ones
+-- before the first ballot; and a look that has gone on to index k, with more senders at its phase
 abbrev pub unlooked : Head → Look
 unlooked h =
     record {
@@ -160,20 +164,6 @@ with_said look k listed said =
       blanks = get_or said 4 0;
     }
 
-abbrev pub with_elsewhere : Look → ℕ → ℕ → Look
-with_elsewhere look k elsewhere =
-    record {
-      next = k;
-      phase = look.phase;
-      listed = look.listed;
-      elsewhere = elsewhere;
-      zeros = look.zeros;
-      zeros_decided = look.zeros_decided;
-      ones = look.ones;
-      ones_decided = look.ones_decided;
-      blanks = look.blanks;
-    }
-
 -- numbers of heads that fit into a set
 abbrev pub Fits : Head → Type 0
 Fits h = (h.n ≤ 32) × (h.own < 32)
@@ -195,16 +185,17 @@ abbrev pub KnownIn : ℕ → List ℕ → ℕ → Type 0
 KnownIn set l i =
     (j : ℕ) → j < i → (ballot_at l j).phase ≡ (ballot_at l i).phase → (ballot_at l j).sender < 32 → member (ballot_at l j).sender set ≡ true
 
--- what head s says at the look's phase, in one number; and the ballot of the lowest sender there
-abbrev pub code_by : Look → ℕ → ℕ
-code_by look s =
-    let decided = member s (bit_or look.zeros_decided look.ones_decided) in
-    cond (member s look.blanks) 4
-    (cond (member s (bit_or look.ones look.ones_decided)) (cond decided 3 2) (cond decided 1 0))
+-- what head s says at the look's phase; and the ballot of the lowest sender there
+abbrev pub value_by : Look → ℕ → Value
+value_by look s = cond (member s look.blanks) Blank (cond (member s (bit_or look.ones look.ones_decided)) One Zero)
+
+abbrev pub status_by : Look → ℕ → Status
+status_by look s = cond (member s (bit_or look.zeros_decided look.ones_decided)) Decided Undecided
 
 abbrev pub foremost : Look → Ballot
 foremost look =
-    let s = first heads_most (λ s. member s look.listed) % 32 in ballot_by s (code_by look s) look.phase
+    let s = first heads_most (λ s. member s look.listed) % 32 in
+    record { sender = s; value = value_by look s; status = status_by look s; phase = look.phase }
 
 -- the head with those that were seen at its phase; nobody is decided with a blank
 abbrev pub shown : Head → Look → Head

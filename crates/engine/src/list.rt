@@ -7,7 +7,7 @@ ghost use Rattle.engine.specs.Look.{is_of};
 
 use crate::ballot::breaks_rule;
 use crate::head::{own_ballot, stands_under};
-use crate::said::{phase_at, sender_at};
+use crate::said::{phase_in, sender_in};
 use codes::{BALLOT_BYTES, ballot_at};
 use rules::{Ballot, Head};
 
@@ -18,15 +18,10 @@ pub(crate) fn first_breaking(n: u8, ballots: &[u8], from: usize) -> usize
     requires by_index { (j : ℕ) → j < from → breaks_rule n ballots.now j ≡ false }
     ensures { result ≡ first (ballots_of ballots.now) (breaks_rule n ballots.now) }
 {
-    let count = ballots.len() / BALLOT_BYTES;
-    let mut i = from;
-    while i < count {
-        if breaks_rule(n as u32, ballots, i) {
-            return i;
-        }
-        i += 1;
-    }
-    i
+    let (fives, _) = ballots.as_chunks::<BALLOT_BYTES>();
+    (from..fives.len())
+        .find(|&i| breaks_rule(n as u32, &fives[i]))
+        .unwrap_or(fives.len())
 }
 
 // The first ballot under the head's own number that is ahead of the head or unlike it.
@@ -36,34 +31,10 @@ pub(crate) fn first_own_otherwise(head: Head, ballots: &[u8], from: usize) -> us
     ensures { result ≡ first (ballots_of ballots.now)
         (λ i. own_otherwise head (ballot_at ballots.now i)) }
 {
-    let count = ballots.len() / BALLOT_BYTES;
-    let mut i = from;
-    while i < count {
-        if is_own_otherwise(head, ballots, i) {
-            return i;
-        }
-        i += 1;
-    }
-    i
-}
-
-// Most ballots are of other senders, and not read further.
-fn is_own_otherwise(head: Head, ballots: &[u8], i: usize) -> bool
-    requires { i < ballots_of ballots.now }
-    ensures { result ≡ own_otherwise head (ballot_at ballots.now i) }
-{
-    if sender_at(ballots, i) != head.own {
-        return false;
-    }
-    own_otherwise(head, ballot_at(ballots, i))
-}
-
-fn own_otherwise(head: Head, ballot: Ballot) -> bool
-    ensures { result ≡ own_otherwise head ballot }
-{
-    (ballot.sender == head.own)
-        & ((head.phase < ballot.phase)
-            | ((ballot.phase == head.phase) & !same_state(ballot, own_ballot(head))))
+    let (fives, _) = ballots.as_chunks::<BALLOT_BYTES>();
+    (from..fives.len())
+        .find(|&i| is_own_otherwise(head, &fives[i]))
+        .unwrap_or(fives.len())
 }
 
 // The first ballot of the sender at the phase before an index; the index where there is none.
@@ -71,43 +42,53 @@ pub(crate) fn first_of(ballots: &[u8], phase: u16, sender: u8, before: usize) ->
     requires { before < ballots_of ballots.now }
     ensures { result ≡ first before (is_of ballots.now phase sender) }
 {
-    let mut i: usize = 0;
-    while i < before {
-        if is_of(ballots, phase, sender, i) {
-            return i;
-        }
-        i += 1;
-    }
-    i
+    let (fives, _) = ballots.as_chunks::<BALLOT_BYTES>();
+    (0..before)
+        .find(|&i| is_of(phase, sender, &fives[i]))
+        .unwrap_or(before)
 }
 
-fn is_of(ballots: &[u8], phase: u16, sender: u8, i: usize) -> bool
-    requires { i < ballots_of ballots.now }
-    ensures { result ≡ is_of ballots.now phase sender i }
+// Most ballots are of other senders, and not read further.
+#[tactic(auto, unfolding(rules::specs::Tick::own_otherwise))]
+fn is_own_otherwise(head: Head, five: &[u8; BALLOT_BYTES]) -> bool
+    ensures { result ≡ own_otherwise head (ballot_at five.now 0) }
 {
-    if sender_at(ballots, i) != sender {
+    sender_in(five) == head.own && own_otherwise(head, ballot_at(five, 0))
+}
+
+#[tactic(auto, unfolding(rules::specs::Tick::own_otherwise))]
+fn own_otherwise(head: Head, ballot: Ballot) -> bool
+    ensures { result ≡ own_otherwise head ballot }
+{
+    ballot.sender == head.own
+        && (head.phase < ballot.phase
+            || (ballot.phase == head.phase && !same_state(ballot, own_ballot(head))))
+}
+
+fn is_of(phase: u16, sender: u8, five: &[u8; BALLOT_BYTES]) -> bool
+    ensures { result ≡ is_of five.now phase sender 0 }
+{
+    sender_in(five) == sender && phase_in(five) == phase
+}
+
+// Whether a ballot is unlike the head under its own number, or unlike what is held.
+#[tactic(auto, using(crate::proofs::Refusing::late_otherwise))]
+pub(crate) fn otherwise(head: Head, five: &[u8; BALLOT_BYTES]) -> bool
+    ensures { result ≡ own_otherwise head (ballot_at five.now 0)
+        || held_otherwise head (ballot_at five.now 0) }
+{
+    if phase_in(five) < head.phase {
         return false;
     }
-    phase_at(ballots, i) == phase
+    let ballot = ballot_at(five, 0);
+    own_otherwise(head, ballot) || held_otherwise(head, ballot)
 }
 
-// Whether the ballot at index i is unlike the head under its own number, or unlike what is held.
-pub(crate) fn otherwise(head: Head, ballots: &[u8], i: usize) -> bool
-    requires { i < ballots_of ballots.now }
-    ensures { result ≡ own_otherwise head (ballot_at ballots.now i)
-        || held_otherwise head (ballot_at ballots.now i) }
-{
-    if phase_at(ballots, i) < head.phase {
-        return false;
-    }
-    let ballot = ballot_at(ballots, i);
-    own_otherwise(head, ballot) | held_otherwise(head, ballot)
-}
-
+#[tactic(auto, unfolding(rules::specs::Tick::held_otherwise))]
 fn held_otherwise(head: Head, ballot: Ballot) -> bool
     ensures { result ≡ held_otherwise head ballot }
 {
-    (ballot.phase == head.phase) & !stands_under(head, ballot.sender, ballot.value)
+    ballot.phase == head.phase && !stands_under(head, ballot.sender, ballot.value)
 }
 
 fn same_state(a: Ballot, b: Ballot) -> bool

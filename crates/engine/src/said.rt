@@ -2,34 +2,30 @@
 ghost use Rattle.std.specs.Prelude.{◌≡◌, cond, ◌||◌, ℕ, ◌<◌, ◌≤◌, ◌+◌, ◌*◌, length, get_or};
 ghost use Rattle.rules.specs.Ballot.{ballot_at};
 ghost use Rattle.rules.specs.Heard.{member as member_of, set_of};
-ghost use Rattle.rules.specs.Tick.{ballots as ballots_of};
 ghost use Rattle.engine.specs.Look.{code_at, is_within, statuses_of, codes_of, barred_from, alone as alone_of};
 
 use codes::{BALLOT_BYTES, Coded, PHASE_HIGH, PHASE_LOW, SENDER, STATUS, VALUE, phase_of};
 use rules::{Class, Head};
 
-// Of the ballot at index i.
-pub(crate) fn sender_at(ballots: &[u8], i: usize) -> u8
-    requires { i < ballots_of ballots.now }
-    ensures { result ≡ (ballot_at ballots.now i).sender }
+// Of one ballot.
+#[tactic(auto, unfolding(rules::specs::Ballot::ballot_at))]
+pub(crate) fn sender_in(five: &[u8; BALLOT_BYTES]) -> u8
+    ensures { result ≡ (ballot_at five.now 0).sender }
 {
-    ballots[i * BALLOT_BYTES + SENDER]
+    five[SENDER]
 }
 
-pub(crate) fn phase_at(ballots: &[u8], i: usize) -> u16
-    requires { i < ballots_of ballots.now }
-    ensures { result ≡ (ballot_at ballots.now i).phase }
+#[tactic(auto, unfolding(rules::specs::Ballot::ballot_at))]
+pub(crate) fn phase_in(five: &[u8; BALLOT_BYTES]) -> u16
+    ensures { result ≡ (ballot_at five.now 0).phase }
 {
-    let at = i * BALLOT_BYTES;
-    phase_of(ballots[at + PHASE_HIGH], ballots[at + PHASE_LOW])
+    phase_of(five[PHASE_HIGH], five[PHASE_LOW])
 }
 
-pub(crate) fn code_at(ballots: &[u8], i: usize) -> usize
-    requires { i < ballots_of ballots.now }
-    ensures { result ≡ code_at ballots.now i }
+pub(crate) fn code_in(five: &[u8; BALLOT_BYTES]) -> usize
+    ensures { result ≡ code_at five.now 0 }
 {
-    let at = i * BALLOT_BYTES;
-    code_of(ballots[at + VALUE], ballots[at + STATUS])
+    code_of(five[VALUE], five[STATUS])
 }
 
 // Two for each value.
@@ -39,38 +35,33 @@ fn code_of(value: u8, status: u8) -> usize
     value as usize * 2 + status as usize
 }
 
+// The ballot rules at phases of a class, as two bounds: how many statuses stand, and how many of the
+// numbers of value and status.
+#[derive(Clone, Copy)]
+pub(crate) struct Bounds {
+    statuses: u8,
+    codes: usize,
+}
+
+pub(crate) fn bounds_of(class: Class) -> Bounds
+    ensures statuses { result.statuses ≡ statuses_of class }
+    ensures codes { result.codes ≡ codes_of class }
+{
+    let (statuses, codes) = match class {
+        Class::Never => (0, 0),
+        Class::First => (1, 4),
+        Class::Second => (1, 5),
+        Class::Odd => (2, 4),
+        Class::Even => (2, 5),
+    };
+    Bounds { statuses, codes }
+}
+
 // Whether its sender and codes stand within the bounds.
-pub(crate) fn stands(n: u8, codes: usize, statuses: u8, ballots: &[u8], i: usize) -> bool
-    requires { i < ballots_of ballots.now }
-    ensures { result ≡ is_within n codes statuses ballots.now i }
+pub(crate) fn stands(n: u8, bounds: Bounds, five: &[u8; BALLOT_BYTES]) -> bool
+    ensures { result ≡ is_within n bounds.codes bounds.statuses five.now 0 }
 {
-    let at = i * BALLOT_BYTES;
-    (ballots[at + SENDER] < n) & ((ballots[at + STATUS] < statuses) & (code_at(ballots, i) < codes))
-}
-
-// The ballot rules at phases of a class, as two bounds.
-pub(crate) fn codes_of(class: Class) -> usize
-    ensures { result ≡ codes_of class }
-{
-    match class {
-        Class::Never => 0,
-        Class::First => 4,
-        Class::Second => 5,
-        Class::Odd => 4,
-        Class::Even => 5,
-    }
-}
-
-pub(crate) fn statuses_of(class: Class) -> u8
-    ensures { result ≡ statuses_of class }
-{
-    match class {
-        Class::Never => 0,
-        Class::First => 1,
-        Class::Second => 1,
-        Class::Odd => 2,
-        Class::Even => 2,
-    }
+    (five[SENDER] < n) & ((five[STATUS] < bounds.statuses) & (code_in(five) < bounds.codes))
 }
 
 // Who may not say what at the phase, the head's or a higher one.
@@ -103,6 +94,7 @@ fn unless(yes: bool, set: u32) -> u32
     if yes { 0 } else { set }
 }
 
+#[tactic(auto, using(crate::proofs::Barred::either_set))]
 pub(crate) fn either(a: u32, b: u32, c: u32) -> u32
     ensures { result ≡ set_of 32 (λ s. member_of s a || (member_of s b || member_of s c)) }
 {

@@ -25,22 +25,25 @@ returns-then-not_heads c =
     let all = refused_by _ _ NotHeads refl (simp (← c.not_heads.ensures, c.if-not_heads.true)) in
     record { number = all.0; index = all.1.0; ballot = all.1.1 }
 
-pub returns-then-bytes-ne-BALLOT_BYTES : goal.returns-then-bytes-ne-BALLOT_BYTES
+pub returns-in_default : goal.returns-in_default
 unfolding read_number first_that_applies
-returns-then-bytes-ne-BALLOT_BYTES c =
-    let all = refused_by _ _ Length refl (simp (← c.not_heads.ensures, c.if-not_heads.false, ne_eqb _ _ c.if-bytes-ne-BALLOT_BYTES.true)) in
+returns-in_default c =
+    let all = refused_by _ _ Length refl (simp (← c.not_heads.ensures, c.if-not_heads.false, ne_eqb _ _ c.in_default.ensures.cases)) in
     record { number = all.0; index = all.1.0; ballot = all.1.1 }
 
 pub returns-then-breaks_rule : goal.returns-then-breaks_rule
 unfolding read_number first_that_applies
 returns-then-breaks_rule c =
-    let all = refused_by _ _ (BreaksRule 0) refl (simp (← c.not_heads.ensures, c.if-not_heads.false, eq-eqb _ _ c.if-bytes-ne-BALLOT_BYTES.false, ← c.breaks_rule.ensures, c.if-breaks_rule.true)) in
+    let whole = c.in-Some.ensures.cases in
+    let all = refused_by _ _ (BreaksRule 0) refl (simp (← c.not_heads.ensures, c.if-not_heads.false, eq-eqb _ _ whole.long, ← whole.same, ← c.breaks_rule.ensures, c.if-breaks_rule.true)) in
     record { number = all.0; index = all.1.0; ballot = all.1.1 }
 
 pub returns : goal.returns
 unfolding read_number read_ballot first_that_applies
-returns c = record {
-  number = simp (← c.not_heads.ensures, c.if-not_heads.false, eq-eqb _ _ c.if-bytes-ne-BALLOT_BYTES.false, ← c.breaks_rule.ensures, c.if-breaks_rule.false);
-  index = refl;
-  ballot = simp (← c.not_heads.ensures, c.if-not_heads.false, eq-eqb _ _ c.if-bytes-ne-BALLOT_BYTES.false, ← c.breaks_rule.ensures, c.if-breaks_rule.false, ballot_there c.args.bytes.now 0 c.ballot_at.ensures (omega (arith, c.if-bytes-ne-BALLOT_BYTES.false)));
-}
+returns c =
+    let whole = c.in-Some.ensures.cases in
+    record {
+      number = simp (← c.not_heads.ensures, c.if-not_heads.false, eq-eqb _ _ whole.long, ← whole.same, ← c.breaks_rule.ensures, c.if-breaks_rule.false);
+      index = refl;
+      ballot = simp (← c.not_heads.ensures, c.if-not_heads.false, eq-eqb _ _ whole.long, ← whole.same, ← c.breaks_rule.ensures, c.if-breaks_rule.false, ballot_there c.in-Some.five.now 0 c.ballot_at.ensures (omega (arith, whole.long, whole.same)));
+    }

@@ -1,34 +1,53 @@
-use Rattle.rules.specs.Below.{first}
-use Rattle.rules.specs.Heard.{member}
-use Rattle.engine.specs.Look.{is_of}
+use Prim.Native.Nat.{ℕ}
 use mathlib.Core.Path.{sym, ap, ap₂, ◌∙◌}
 use mathlib.Core.Bool.{Bool, ◌||◌, not}
-use Prim.Native.Nat.{ℕ}
 use native.Mathlib.Omega.{arith}
+use Rattle.std.proofs.Common.{rules}
 use lib.Dec.{eqb}
+use Rattle.rules.specs.declared.Ballot.{Ballot}
+use Rattle.rules.specs.Below.{first}
+use Rattle.rules.specs.Heard.{member}
+use Rattle.rules.specs.Tick.{own_otherwise, held_otherwise}
+use Rattle.engine.specs.Look.{is_of}
+use Rattle.engine.proofs.Fives.{array_of, same_ballot, same_sender, same_phase, same_code, same_rule}
 use Rattle.engine.proofs.Refusing.{otherwise, low_sender, not_earlier, found_low, refused_breaks, refused_late, refused_parts}
 use Rattle.engine.proofs.look.is_refused_late.Goals as goal
 
 pub returns-then-breaks_rule : goal.returns-then-breaks_rule
-returns-then-breaks_rule c = refused_breaks _ _ _ (sym c.breaks_rule.ensures ∙ c.if-breaks_rule.true)
+returns-then-breaks_rule c =
+    let here = array_of c.args.i c.as_chunks.ensures.front c.requires.i_bound in
+    refused_breaks _ _ _ (sym (c.breaks_rule.ensures ∙ same_rule here c.args.head.n) ∙ c.if-breaks_rule.true)
 
 pub has-requires : goal.has-requires
-has-requires c = omega (arith, low_sender _ _ _ (sym c.breaks_rule.ensures ∙ c.if-breaks_rule.false), c.requires.fits.0, c.sender_at.ensures)
+has-requires c =
+    let here = array_of c.args.i c.as_chunks.ensures.front c.requires.i_bound in
+    omega (arith, low_sender _ _ _ (sym (c.breaks_rule.ensures ∙ same_rule here c.args.head.n) ∙ c.if-breaks_rule.false), c.requires.fits.0, c.sender_in.ensures, same_sender here)
 
 pub returns-then-not-has : goal.returns-then-not-has
 returns-then-not-has c =
-    let stands = sym c.breaks_rule.ensures ∙ c.if-breaks_rule.false in
+    let here = array_of c.args.i c.as_chunks.ensures.front c.requires.i_bound in
+    let stands = sym (c.breaks_rule.ensures ∙ same_rule here c.args.head.n) ∙ c.if-breaks_rule.false in
     c.otherwise.ensures
-    ∙ sym (ap (λ (t : Bool). t || otherwise c.args.head c.args.ballots.now c.args.i) (not_earlier c.args.head _ _ _ c.requires.fits stands c.requires.known_in (ap (λ (s : ℕ). member s c.args.elsewhere) (sym c.sender_at.ensures) ∙ sym c.has.ensures ∙ c.if-not-has.true)))
+    ∙ ap (λ (b : Ballot). own_otherwise c.args.head b || held_otherwise c.args.head b) (same_ballot here)
+    ∙ sym (ap (λ (t : Bool). t || otherwise c.args.head c.args.ballots.now c.args.i) (not_earlier c.args.head _ _ _ c.requires.fits stands c.requires.known_in (ap (λ (s : ℕ). member s c.args.elsewhere) (sym (c.sender_in.ensures ∙ same_sender here)) ∙ sym c.has.ensures ∙ c.if-not-has.true)))
     ∙ refused_parts _ _ _ stands
 
-pub code_at-requires : goal.code_at-requires
-code_at-requires c = found_low _ _ _ _ c.first_of-earlier.ensures c.requires.i_bound
+pub offset_bounds-fives-earlier : goal.offset_bounds-fives-earlier
+offset_bounds-fives-earlier c =
+    let low = found_low _ _ _ _ c.first_of-earlier.ensures c.requires.i_bound in
+    search (rules, arith)
+
+pub bounds-fives-earlier : goal.bounds-fives-earlier
+bounds-fives-earlier c = omega (arith, found_low _ _ _ _ c.first_of-earlier.ensures c.requires.i_bound, c.as_chunks.ensures.front_len)
 
 pub returns : goal.returns
 returns c =
-    let from = c in
-    ap (λ (t : Bool). not (eqb c.code_at.result c.code_at-2.result) || t) c.otherwise-2.ensures
-    ∙ refused_late _ _ _ from.requires.by_index (sym c.breaks_rule.ensures ∙ c.if-breaks_rule.false) _ _ _
-    (c.first_of-earlier.ensures ∙ ap₂ (λ (p s : ℕ). first from.args.i (is_of from.args.ballots.now p s)) c.phase_at.ensures c.sender_at-2.ensures)
-    c.code_at.ensures c.code_at-2.ensures
+    let h = c.args.head in
+    let l = c.args.ballots.now in
+    let i = c.args.i in
+    let here = array_of i c.as_chunks.ensures.front c.requires.i_bound in
+    let there = array_of c.first_of-earlier.result c.as_chunks.ensures.front (found_low _ _ _ _ c.first_of-earlier.ensures c.requires.i_bound) in
+    ap (λ (t : Bool). not (eqb c.code_in.result c.code_in-2.result) || t) (c.otherwise-2.ensures ∙ ap (λ (b : Ballot). own_otherwise h b || held_otherwise h b) (same_ballot here))
+    ∙ refused_late _ _ _ c.requires.by_index (sym (c.breaks_rule.ensures ∙ same_rule here h.n) ∙ c.if-breaks_rule.false) _ _ _
+    (c.first_of-earlier.ensures ∙ ap₂ (λ (p s : ℕ). first i (is_of l p s)) (c.phase_in.ensures ∙ same_phase here) (c.sender_in-2.ensures ∙ same_sender here))
+    (c.code_in.ensures ∙ same_code there) (c.code_in-2.ensures ∙ same_code here)
