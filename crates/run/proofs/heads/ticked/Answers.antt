@@ -1,21 +1,39 @@
-use Rattle.std.proofs.Common.{◌≡◌, refl, ℕ, List, ◌*◌, get_or}
-use Rattle.rules.specs.declared.Head.{Head}
-use Rattle.rules.specs.declared.Ticked.{Ticked}
-use Rattle.rules.specs.Tick.{tick_of}
-use Rattle.rules.specs.Record.{four_bytes_at}
-use Rattle.run.specs.declared.heads.Survey.{Survey}
-use Rattle.run.specs.Survey.{received_from, ticked_by}
+use Rattle.std.proofs.Common.{◌≡◌, ◌<◌, ◌++◌, ◌+◌, ℕ, List, [], true, false, length, take, set, get_or, sym, ap, ◌∙◌, length-set, add-one, append-nil, arith}
+use Rattle.std.specs.List.{flat_map}
+use Rattle.std.proofs.lemmas.List.{take_more_set, flat_map_more}
+use Rattle.rules.specs.Heard.{member}
+use Rattle.run.specs.Received.{received_from}
 use Rattle.run.proofs.heads.ticked.Goals as goal
+use Rattle.run.proofs.heads.ticked.Goals.{then-not-member, else-not-member}
 
-ticked_is : (before : Survey) (n : ℕ) (rows coins : List ℕ) (i : ℕ) (h : Head) (answer : Ticked) (list : List ℕ)
-    (row coin : ℕ)
-    → answer ≡ tick_of h list coin → list ≡ received_from before.ballots row n
-    → row ≡ four_bytes_at rows (i * 4) → coin ≡ get_or coins i 0
-    → answer.head ≡ ticked_by before n rows coins i h
-unfolding ticked_by
-ticked_is before n rows coins i h answer list row coin a b c d = rw (a, b, c, d) refl
+module _ (sent list : List (List ℕ)) (lost s count : ℕ)
+    (so_far : flat_map (λ ballot. ballot) (take count list) ≡ received_from sent lost s) where
+  one_kept : member s lost ≡ false → count < length list
+      → flat_map (λ ballot. ballot) (take (count + 1) (set list count (get_or sent s []))) ≡ received_from sent lost (s + 1)
+  one_kept kept room =
+      rw (add-one s, kept)
+      (ap (flat_map (λ (ballot : List ℕ). ballot)) (take_more_set list count (get_or sent s []) room)
+      ∙ sym (flat_map_more (λ (ballot : List ℕ). ballot) [] (take count list) (get_or sent s []))
+      ∙ ap (λ (bytes : List ℕ). bytes ++ get_or sent s []) so_far)
 
-pub returns : goal.returns
-returns c =
-    ticked_is _ _ _ _ _ _ _ _ _ _ c.tick-answer.ensures c.received-length.ensures.list_after
-    c.row_at.ensures c.byte_at-coin.ensures
+  one_lost : member s lost ≡ true → flat_map (λ ballot. ballot) (take count list) ≡ received_from sent lost (s + 1)
+  one_lost gone = rw (add-one s, gone, append-nil) so_far
+
+pub loop-sender-preserved : goal.loop-sender-preserved
+loop-sender-preserved c =
+    elim c.if-not-member.branch [
+      | then-not-member w ↦ record {
+        within = omega arith;
+        room = rw (w.received-is, length-set) c.loop-sender.invariant.room;
+        so_far = rw (w.count-is, w.received-is)
+            (one_kept _ c.loop-sender.received _ _ c.loop-sender.count c.loop-sender.invariant.so_far
+            (sym c.member.ensures ∙ w.if-not-member.true) (omega arith));
+      }
+      | else-not-member w ↦ record {
+        within = omega arith;
+        room = rw w.received-is c.loop-sender.invariant.room;
+        so_far = rw (w.count-is, w.received-is)
+            (one_lost _ c.loop-sender.received _ _ c.loop-sender.count c.loop-sender.invariant.so_far
+            (sym c.member.ensures ∙ w.if-not-member.false));
+      }
+    ]
