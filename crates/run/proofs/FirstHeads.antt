@@ -112,13 +112,13 @@ decided_is heads rest (suc k) h =
     (decided_is heads rest k (omega arith)) (get_or_append_left heads rest zero_head k h)
     ∙ sym (ap (λ (n : ℕ). count_by is_written (take n heads)) (sym (add-one k)) ∙ sum_by_more (λ (head : Head). cond (is_written head) 1 0) heads k zero_head h)
 
--- the heads are as many as the plan says, and no more than there can be
+-- the heads are as many as the plan says
 pub heads_are : (file : List ℕ) (table : List Head) (plan : Plan) → plan ≡ plan_of file (length table)
     → length (take plan.n table) ≡ plan.n
 heads_are file table plan is = length-take-le plan.n table (rw is (planned_room file (length table)))
 
-pub few_heads : (file : List ℕ) (table : List Head) (plan : Plan) → plan ≡ plan_of file (length table) → plan.n ≤ 32
-few_heads file table plan is = rw is (planned_small file (length table)).heads
+-- what the bench wants of its plan
+pub ruleset plans = (planned_room, planned_small, heads_are)
 
 -- the bench: the first heads of the table, as they start and after all rounds
 module _ (file : List ℕ) (table begun last : List Head) (proposals : List ℕ) (plan : Plan) (r : ℕ)

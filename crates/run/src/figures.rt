@@ -16,35 +16,35 @@ pub(crate) fn outcome(file: &[u8], plan: Plan, heads: &[Head]) -> Outcome
     requires { Small plan }
     ensures { result ≡ outcome_in file.now plan (count_by is_written heads.now) }
 {
-    let bound = bound(plan.n, plan.needed);
     Outcome {
         number: plan.number,
         place: plan.place,
         n: plan.n,
         needed: plan.needed,
-        bound: bound,
+        bound: bound(plan),
         rounds: plan.rounds,
-        good: good(file, plan, bound),
+        good: good(file, plan),
         decided: decided(heads),
     }
 }
 
 // "ceil(n/2) × (n - k) + k - 2"; 0 where there are no heads.
-fn bound(n: usize, k: usize) -> usize
-    requires n_le_heads_most { n ≤ heads_most }
-    requires k_le_n { k ≤ n }
-    ensures { result ≡ bound_of n k }
+fn bound(plan: Plan) -> usize
+    requires { Small plan }
+    ensures { result ≡ bound_of plan.n plan.needed }
 {
+    let n = plan.n;
+    let k = plan.needed;
     (n.div_ceil(2) * (n - k) + k).saturating_sub(2)
 }
 
 // "A round is good if its lost ballots, of n × n, are at most" the bound.
 #[tactic(auto, unfolding(rules::specs::Below::count))]
-fn good(file: &[u8], plan: Plan, bound: usize) -> usize
-    requires small { Small plan }
-    requires is_bound { bound ≡ bound_of plan.n plan.needed }
+fn good(file: &[u8], plan: Plan) -> usize
+    requires { Small plan }
     ensures { result ≡ good_in file.now plan plan.rounds }
 {
+    let bound = bound(plan);
     let mut good = 0;
     for r in 0..plan.rounds {
         if lost_in(rows_of(file, plan, r), plan.n) <= bound {

@@ -6,7 +6,7 @@ ghost use Rattle.rules.specs.Head.{ballot_of};
 ghost use Rattle.rules.specs.Tick.{tick_of};
 ghost use Rattle.run.specs.Received.{received_from};
 
-use codes::{BALLOT_BYTES, HEADS_MOST, ballot_bytes, member};
+use codes::{BALLOT_BYTES, HEADS_MOST, ballot_bytes};
 use engine::{own_ballot, tick};
 use rules::Head;
 
@@ -30,10 +30,9 @@ pub(crate) fn ticked(head: Head, sent: &[[u8; BALLOT_BYTES]], lost: u32, coin: u
     let mut received = [[0; BALLOT_BYTES]; HEADS_MOST as usize];
     let mut count = 0;
     for (sender, ballot) in sent.iter().enumerate() {
-        if !member(lost, sender as u8) {
-            received[count] = *ballot;
-            count += 1;
-        }
+        // The next one overwrites a lost one: with an `if` whole runs took up to 1.4 times as long.
+        received[count] = *ballot;
+        count += usize::from((lost >> sender) % 2 == 0);
     }
-    tick(head, received[..count].as_flattened(), coin as u32).head
+    tick(head, received[..count].as_flattened(), u32::from(coin)).head
 }

@@ -18,7 +18,7 @@ use rules::Head;
 
 // "The bench works in a lent table of heads, n or more; after a run the first n are the heads and
 // the others are untouched. Refused: nothing in the table changes."
-#[tactic(auto, using(crate::proofs::Planned::planned_room, crate::proofs::Planned::planned_small, crate::proofs::FirstHeads::heads_are), unfolding(file::specs::Table::rounds_in))]
+#[tactic(auto, using(crate::proofs::FirstHeads::plans), unfolding(file::specs::Table::rounds_in))]
 pub fn bench(file: &[u8], table: &mut [Head]) -> Outcome
     ensures value { result ≡ outcome_of file.now table.old }
     ensures table_after { table.new ≡ table_after file.now table.old }
@@ -36,13 +36,9 @@ pub fn bench(file: &[u8], table: &mut [Head]) -> Outcome
 pub fn run_file(file: &[u8]) -> Benched
     ensures { result ≡ benched_of file.now }
 {
-    let h = zero_head();
-    let mut table = [h; HEADS_MOST as usize];
-    let o = bench(file, &mut table);
-    Benched {
-        outcome: o,
-        heads: table,
-    }
+    let mut heads = [zero_head(); HEADS_MOST as usize];
+    let outcome = bench(file, &mut heads);
+    Benched { outcome, heads }
 }
 
 // Starts each head with its proposal, a byte of section 1's part.
@@ -54,7 +50,7 @@ fn start_all(heads: &mut [Head], proposals: &[u8])
 {
     let n = heads.len() as u32;
     for (i, head) in heads.iter_mut().enumerate() {
-        *head = start(n, i as u32, byte_at(proposals, i) as u32).head;
+        *head = start(n, i as u32, u32::from(byte_at(proposals, i))).head;
     }
 }
 
