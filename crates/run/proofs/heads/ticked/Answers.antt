@@ -6,9 +6,9 @@ use mir.Val.{bool_byte}
 use Rattle.run.specs.Received.{received_from}
 use Rattle.run.proofs.heads.ticked.Goals as goal
 
-few : (t : Bool) → bool_byte t ≤ 1
-few true = omega arith
-few false = omega arith
+few : (n : ℕ) (t : Bool) → n ≡ bool_byte t → n ≤ 1
+few n true is = omega arith
+few n false is = omega arith
 
 module _ (sent list : List (List ℕ)) (lost s count : ℕ) (room : count < length list)
     (so_far : flat_map (λ ballot. ballot) (take count list) ≡ received_from sent lost s) where
@@ -25,7 +25,7 @@ module _ (sent list : List (List ℕ)) (lost s count : ℕ) (room : count < leng
 
 pub loop-sender-preserved : goal.loop-sender-preserved
 loop-sender-preserved c = record {
-  within = omega (arith, few (eqb (c.args.lost / 2 ^ c.loop-sender.sender % 2) 0));
+  within = omega (arith, few _ _ c.from-count.ensures);
   room = rw length-set c.loop-sender.invariant.room;
   so_far = rw c.from-count.ensures
       (one_more _ _ _ _ c.loop-sender.count (omega arith) c.loop-sender.invariant.so_far _ (omega arith) refl);
