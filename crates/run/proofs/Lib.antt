@@ -1,9 +1,8 @@
 pub mod Checking
+pub mod FirstHeads
 pub mod Only
 pub mod Parts
 pub mod Planned
 pub mod Planning
-pub mod Received
 pub mod Reports
-pub mod Surveyed
 pub mod Texts

@@ -4,7 +4,7 @@ use Rattle.file.specs.declared.Plan.{Plan}
 use Rattle.file.specs.declared.Outcome.{Outcome}
 use Rattle.file.specs.Figures.{bound_of, good_in}
 
-unfoldable pub outcome_in : List ℕ → Plan → ℕ → Outcome
+abbrev pub outcome_in : List ℕ → Plan → ℕ → Outcome
 outcome_in file plan decided =
     record {
       number = plan.number;

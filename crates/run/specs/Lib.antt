@@ -1,6 +1,6 @@
 pub mod Sections
 pub mod Plans
-pub mod Survey
+pub mod Received
 pub mod Small
 pub mod Writing
 pub mod Figures

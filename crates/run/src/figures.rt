@@ -1,71 +1,81 @@
-// The figures of a run: the bound, the good rounds, and the answer with them.
-ghost use Rattle.std.specs.Prelude.{◌≡◌, ◌*◌, ◌≤◌};
+// The figures of a run: the bound, the good rounds and the written decisions, and the answer with them.
+ghost use Rattle.std.specs.Prelude.{◌≡◌, ◌≤◌, count_by};
 ghost use Rattle.rules.specs.Sizes.{heads_most};
+ghost use Rattle.rules.specs.Head.{is_written};
 ghost use Rattle.file.specs.Figures.{lost_in, bound_of, good_in};
 ghost use Rattle.run.specs.Figures.{outcome_in};
 ghost use Rattle.run.specs.Small.{Small};
 
-use crate::heads::Survey;
 use crate::plans::rows_of;
 use crate::sections::row_at;
 use codes::{SET_BYTES, size};
 use file::{Outcome, Plan};
+use rules::{Decision, Head};
 
-pub(crate) fn outcome(file: &[u8], plan: Plan, last: Survey) -> Outcome
+pub(crate) fn outcome(file: &[u8], plan: Plan, heads: &[Head]) -> Outcome
     requires { Small plan }
-    ensures { result ≡ outcome_in file.now plan last.decided }
+    ensures { result ≡ outcome_in file.now plan (count_by is_written heads.now) }
 {
-    let most = bound(plan.n, plan.needed);
     Outcome {
         number: plan.number,
         place: plan.place,
         n: plan.n,
         needed: plan.needed,
-        bound: most,
+        bound: bound(plan),
         rounds: plan.rounds,
-        good: good(file, plan, most),
-        decided: last.decided,
+        good: good(file, plan),
+        decided: decided(heads),
     }
 }
 
-// "A round is good if its lost ballots, of n × n, are at most" the bound.
-fn good(file: &[u8], plan: Plan, most: usize) -> usize
-    requires small { Small plan }
-    requires most_is_bound { most ≡ bound_of plan.n plan.needed }
-    ensures { result ≡ good_in file.now plan plan.rounds }
+// "ceil(n/2) × (n - k) + k - 2"; 0 where there are no heads.
+fn bound(plan: Plan) -> usize
+    requires { Small plan }
+    ensures { result ≡ bound_of plan.n plan.needed }
 {
     let n = plan.n;
-    let rounds = plan.rounds;
+    let k = plan.needed;
+    (n.div_ceil(2) * (n - k) + k).saturating_sub(2)
+}
+
+// "A round is good if its lost ballots, of n × n, are at most" the bound.
+#[tactic(auto, unfolding(rules::specs::Below::count))]
+fn good(file: &[u8], plan: Plan) -> usize
+    requires { Small plan }
+    ensures { result ≡ good_in file.now plan plan.rounds }
+{
+    let bound = bound(plan);
     let mut good = 0;
-    let mut r = 0;
-    while r < rounds {
-        let lost = lost_in(rows_of(file, plan, r), n);
-        good = good + (lost <= most) as usize;
-        r = r + 1;
+    for r in 0..plan.rounds {
+        if lost_in(rows_of(file, plan, r), plan.n) <= bound {
+            good += 1;
+        }
     }
     good
 }
 
 // "its lost ballots, of n × n"
+#[tactic(auto, unfolding(file::specs::Figures::lost_in), using(rules::proofs::Counting::Sets::size_le))]
 fn lost_in(rows: &[u8], n: usize) -> usize
     requires { n ≤ heads_most }
     ensures { result ≡ lost_in rows.now n }
 {
     let mut lost = 0;
-    let mut k = 0;
-    while k < n {
-        lost = lost + size(row_at(rows, k * SET_BYTES)) as usize;
-        k = k + 1;
+    for i in 0..n {
+        lost += size(row_at(rows, i * SET_BYTES)) as usize;
     }
     lost
 }
 
-// "ceil(n/2) × (n - k) + k - 2"; 0 where there are no heads.
-fn bound(n: usize, k: usize) -> usize
-    requires n_le_heads_most { n ≤ heads_most }
-    requires k_le_n { k ≤ n }
-    ensures { result ≡ bound_of n k }
+// W2: "The last figure counts heads whose decision is written."
+fn decided(heads: &[Head]) -> usize
+    ensures { result ≡ count_by is_written heads.now }
 {
-    let sum = (n + 1) / 2 * (n - k) + k;
-    if sum < 2 { 0 } else { sum - 2 }
+    heads.iter().filter(|head| is_written(**head)).count()
+}
+
+fn is_written(head: Head) -> bool
+    ensures { result ≡ is_written head }
+{
+    matches!(head.decision, Decision::Zero | Decision::One)
 }

@@ -1,104 +1,68 @@
-// The bench in a lent table of heads: thin loops above the covered functions of `heads`, which take
-// and give a head by value.
-ghost use Rattle.std.specs.Prelude.{◌≡◌, ◌≤◌, length};
+// The bench in a lent table of heads: the starts, the rounds, and what the heads are after them.
+ghost use Rattle.std.specs.Prelude.{◌≡◌, ◌≤◌, length, get_or};
+ghost use Rattle.rules.specs.Head.{start_of};
 ghost use Rattle.rules.specs.Sizes.{heads_most};
-ghost use Rattle.file.specs.Table.{starts_in, round_in, rounds_in, table_after};
+ghost use Rattle.file.specs.Table.{placed, round_in, table_after};
 ghost use Rattle.file.specs.Figures.{outcome_of};
 ghost use Rattle.file.specs.Benched.{benched_of};
-ghost use Rattle.run.specs.Survey.{survey_of};
-ghost use Rattle.run.specs.Small.{Small};
 
 use crate::figures::outcome;
-use crate::heads::{Survey, no_survey, note, started, ticked};
+use crate::heads::{ballots_of, ticked};
+use crate::places::{byte_at, part};
 use crate::plans::{coins_of, plan_of, rows_of};
-use codes::{HEADS_MOST, zero_head};
-use file::{Benched, Outcome, Plan};
+use crate::sections::{COUNT_BYTES, row_at};
+use codes::{HEADS_MOST, SET_BYTES, zero_head};
+use engine::start;
+use file::{Benched, Outcome};
 use rules::Head;
 
 // "The bench works in a lent table of heads, n or more; after a run the first n are the heads and
 // the others are untouched. Refused: nothing in the table changes."
+#[tactic(auto, using(crate::proofs::FirstHeads::plans), unfolding(file::specs::Table::rounds_in))]
 pub fn bench(file: &[u8], table: &mut [Head]) -> Outcome
     ensures value { result ≡ outcome_of file.now table.old }
     ensures table_after { table.new ≡ table_after file.now table.old }
 {
     let plan = plan_of(file, table.len());
-    let n = plan.n;
-    start_all(table, file, n);
-    run_rounds(table, file, plan);
-    let last = survey(table, n);
-    outcome(file, plan, last)
+    let heads = &mut table[..plan.n];
+    start_all(heads, part(file, COUNT_BYTES, plan.n));
+    for r in 0..plan.rounds {
+        round(heads, rows_of(file, plan, r), coins_of(file, plan, r));
+    }
+    outcome(file, plan, heads)
 }
 
 // The same in a table of 32 that is made here and given back: whoever calls this lends nothing.
 pub fn run_file(file: &[u8]) -> Benched
     ensures { result ≡ benched_of file.now }
 {
-    let h = zero_head();
-    let mut table = [h; HEADS_MOST as usize];
-    let o = bench(file, &mut table);
-    Benched {
-        outcome: o,
-        heads: table,
-    }
+    let mut heads = [zero_head(); HEADS_MOST as usize];
+    let outcome = bench(file, &mut heads);
+    Benched { outcome, heads }
 }
 
-fn start_all(table: &mut [Head], file: &[u8], n: usize)
-    requires n_in_bounds { n ≤ length table.old }
-    requires n_le_heads_most { n ≤ heads_most }
-    ensures { table.new ≡ starts_in file.now n table.old }
+// Starts each head with its proposal, a byte of section 1's part.
+#[tactic(auto, unfolding(file::specs::Table::placed))]
+fn start_all(heads: &mut [Head], proposals: &[u8])
+    requires { length heads.old ≤ heads_most }
+    ensures { heads.new ≡ placed (length heads.old)
+        (λ i. (start_of (length heads.old) i (get_or proposals.now i 0)).head) heads.old }
 {
-    let mut i = 0;
-    while i < n {
-        let h = started(file, n, i);
-        table[i] = h;
-        i = i + 1;
-    }
-}
-
-fn run_rounds(table: &mut [Head], file: &[u8], plan: Plan)
-    requires n_in_bounds { plan.n ≤ length table.old }
-    requires small { Small plan }
-    ensures { table.new ≡ rounds_in file.now plan plan.rounds table.old }
-{
-    let n = plan.n;
-    let rounds = plan.rounds;
-    let mut r = 0;
-    while r < rounds {
-        let rows = rows_of(file, plan, r);
-        let coins = coins_of(file, plan, r);
-        round(table, n, rows, coins);
-        r = r + 1;
+    let n = heads.len() as u32;
+    for (i, head) in heads.iter_mut().enumerate() {
+        *head = start(n, i as u32, u32::from(byte_at(proposals, i))).head;
     }
 }
 
 // "A round: all n ballots are formed first, then each head in number order is ticked".
-fn round(table: &mut [Head], n: usize, rows: &[u8], coins: &[u8])
-    requires n_in_bounds { n ≤ length table.old }
-    requires n_le_heads_most { n ≤ heads_most }
-    ensures { table.new ≡ round_in n rows.now coins.now table.old }
+#[tactic(auto, unfolding(file::specs::Table::placed, file::specs::Table::round_in))]
+fn round(heads: &mut [Head], rows: &[u8], coins: &[u8])
+    requires { length heads.old ≤ heads_most }
+    ensures { heads.new ≡ round_in (length heads.old) rows.now coins.now heads.old }
 {
-    let before = survey(table, n);
-    let mut i = 0;
-    while i < n {
-        let h = table[i];
-        let g = ticked(h, before, n, rows, coins, i);
-        table[i] = g;
-        i = i + 1;
+    let ballots = ballots_of(heads);
+    let sent = &ballots[..heads.len()];
+    for (i, head) in heads.iter_mut().enumerate() {
+        *head = ticked(*head, sent, row_at(rows, i * SET_BYTES), byte_at(coins, i));
     }
-}
-
-// What the first n heads show: their ballots, and how many have a written decision.
-fn survey(table: &[Head], n: usize) -> Survey
-    requires n_in_bounds { n ≤ length table.now }
-    requires n_le_heads_most { n ≤ heads_most }
-    ensures { result ≡ survey_of n table.now }
-{
-    let mut shown = no_survey();
-    let mut i = 0;
-    while i < n {
-        let h = table[i];
-        shown = note(shown, i, h);
-        i = i + 1;
-    }
-    shown
 }

@@ -1,0 +1,168 @@
+-- The bench works on the first heads of a table: it does with them alone what document 01 does in the table, and those
+-- behind them stay as they are.
+use Prim.Native.Nat.{ℕ, zero, suc, ◌+◌, ◌*◌, ◌≤◌, ◌<◌}
+use mathlib.Core.Path.{◌≡◌, refl, sym, ap, ap₂, ◌∙◌}
+use mathlib.Core.List.{List, [], ◌++◌, map}
+use mathlib.Core.Bool.{Bool, cond}
+use native.Mathlib.Numerals.{add-one}
+use native.Mathlib.Omega.{arith}
+use lib.ListN.{length, get_or, set, take, drop}
+use Rattle.std.specs.List.{count_by}
+use Rattle.std.proofs.lemmas.List.{get_or-map, get_or_append_left, set-append_left, take_all, length-map, length-take-le, take-append-drop}
+use Rattle.std.proofs.lemmas.List.Sums.{sum_by_more}
+use Rattle.rules.specs.declared.Head.{Head}
+use Rattle.rules.specs.Below.{count}
+use Rattle.rules.specs.Ballot.{bytes_of}
+use Rattle.rules.specs.Heard.{member}
+use Rattle.rules.specs.Head.{zero_head, start_of, ballot_of, is_written}
+use Rattle.rules.specs.Record.{four_bytes_at}
+use Rattle.rules.specs.Round.{received}
+use Rattle.rules.specs.Tick.{tick_of}
+use Rattle.file.specs.declared.Plan.{Plan}
+use Rattle.file.specs.Plan.{plan_of}
+use Rattle.file.specs.Table.{head_of, placed, rows_in, coins_in, ticked_in, round_in, rounds_in, start_in, starts_in, table_after}
+use Rattle.file.specs.Figures.{decided_in, outcome_of}
+use Rattle.file.proofs.Running.Placing.{placed_length, placed_rest, rounds_length}
+use Rattle.run.specs.Figures.{outcome_in}
+use Rattle.run.specs.Received.{received_from}
+use Rattle.run.proofs.Parts.{byte_of_part}
+use Rattle.run.proofs.Planned.{planned_room, planned_small}
+
+-- ---- what a head receives
+
+-- a head's ballot
+abbrev sent_by : Head → List ℕ
+sent_by head = bytes_of (ballot_of head)
+
+-- from the ballots of some heads it receives what it receives from those heads
+received_is : (heads : List Head) (lost k : ℕ) → k ≤ length heads
+    → received_from (map sent_by heads) lost k ≡ received (head_of heads) (λ s. member s lost) k
+received_is heads lost zero h = refl
+received_is heads lost (suc k) h =
+    ap₂ (λ (list ballot : List ℕ). list ++ cond (member k lost) [] ballot)
+    (received_is heads lost k (omega arith)) (get_or-map sent_by heads k zero_head [] h)
+
+same_received : (heads other : ℕ → Head) (lost : ℕ → Bool) (k : ℕ) → ((s : ℕ) → s < k → heads s ≡ other s)
+    → received heads lost k ≡ received other lost k
+same_received heads other lost zero same = refl
+same_received heads other lost (suc k) same =
+    ap₂ (λ (list : List ℕ) (head : Head). list ++ cond (lost k) [] (sent_by head))
+    (same_received heads other lost k (λ s h. same s (omega arith))) (same k (omega arith))
+
+-- ---- placing heads
+
+same_placed : (k : ℕ) (f g : ℕ → Head) (table : List Head) → ((s : ℕ) → s < k → f s ≡ g s) → placed k f table ≡ placed k g table
+unfolding placed
+same_placed zero f g table same = refl
+same_placed (suc k) f g table same =
+    ap₂ (λ (t : List Head) (head : Head). set t k head) (same_placed k f g table (λ s h. same s (omega arith))) (same k (omega arith))
+
+placed-append : (k : ℕ) (f : ℕ → Head) (heads rest : List Head) → k ≤ length heads
+    → placed k f (heads ++ rest) ≡ placed k f heads ++ rest
+unfolding placed
+placed-append zero f heads rest h = refl
+placed-append (suc k) f heads rest h =
+    ap (λ (t : List Head). set t k (f k)) (placed-append k f heads rest (omega arith))
+    ∙ set-append_left (placed k f heads) rest k (f k) (omega (arith, placed_length k f heads))
+
+-- one more head ticked
+pub one_ticked : (heads so_far : List Head) (sent : List (List ℕ)) (rows coins : List ℕ) (lost coin i : ℕ) (after : Head)
+    → so_far ≡ placed i (ticked_in (length heads) rows coins heads) heads
+    → sent ≡ map (λ head. bytes_of (ballot_of head)) heads
+    → lost ≡ four_bytes_at rows (i * 4) → coin ≡ get_or coins i 0
+    → after ≡ (tick_of (head_of so_far i) (received_from sent lost (length sent)) coin).head
+    → set so_far i after ≡ placed (i + 1) (ticked_in (length heads) rows coins heads) heads
+unfolding placed
+one_ticked heads so_far sent rows coins lost coin i after before is_sent is_lost is_coin is =
+    let n = length heads in
+    let here : head_of (placed i (ticked_in n rows coins heads) heads) i ≡ head_of heads i = placed_rest i _ heads i (omega arith) in
+    rw (add-one i, is, before, here, is_lost, is_coin, is_sent, length-map, received_is heads (four_bytes_at rows (i * 4)) n (omega arith)) refl
+
+-- ---- the bench
+
+round-append : (n : ℕ) (rows coins : List ℕ) (heads rest : List Head) → n ≤ length heads
+    → round_in n rows coins (heads ++ rest) ≡ round_in n rows coins heads ++ rest
+unfolding round_in
+round-append n rows coins heads rest h =
+    same_placed n _ _ (heads ++ rest) same ∙ placed-append n (ticked_in n rows coins heads) heads rest h
+  where
+    there : (s : ℕ) → s < n → head_of (heads ++ rest) s ≡ head_of heads s
+    there s l = get_or_append_left heads rest zero_head s (omega arith)
+
+    same : (s : ℕ) → s < n → ticked_in n rows coins (heads ++ rest) s ≡ ticked_in n rows coins heads s
+    same s l =
+        ap₂ (λ (head : Head) (list : List ℕ). (tick_of head list (get_or coins s 0)).head) (there s l)
+        (same_received (head_of (heads ++ rest)) (head_of heads) (λ k. member k (four_bytes_at rows (s * 4))) n there)
+
+rounds-append : (file : List ℕ) (plan : Plan) (r : ℕ) (heads rest : List Head) → plan.n ≤ length heads
+    → rounds_in file plan r (heads ++ rest) ≡ rounds_in file plan r heads ++ rest
+unfolding rounds_in
+rounds-append file plan zero heads rest h = refl
+rounds-append file plan (suc r) heads rest h =
+    ap (round_in plan.n (rows_in file plan r) (coins_in file plan r)) (rounds-append file plan r heads rest h)
+    ∙ round-append plan.n (rows_in file plan r) (coins_in file plan r) (rounds_in file plan r heads) rest
+    (omega (arith, rounds_length file plan r heads))
+
+-- the written decisions, counted by index
+decided_is : (heads rest : List Head) (n : ℕ) → n ≤ length heads → decided_in (heads ++ rest) n ≡ count_by is_written (take n heads)
+unfolding count
+decided_is heads rest zero h = refl
+decided_is heads rest (suc k) h =
+    ap₂ (λ (decided : ℕ) (head : Head). decided + cond (is_written head) 1 0)
+    (decided_is heads rest k (omega arith)) (get_or_append_left heads rest zero_head k h)
+    ∙ sym (ap (λ (n : ℕ). count_by is_written (take n heads)) (sym (add-one k)) ∙ sum_by_more (λ (head : Head). cond (is_written head) 1 0) heads k zero_head h)
+
+-- the heads are as many as the plan says
+pub heads_are : (file : List ℕ) (table : List Head) (plan : Plan) → plan ≡ plan_of file (length table)
+    → length (take plan.n table) ≡ plan.n
+heads_are file table plan is = length-take-le plan.n table (rw is (planned_room file (length table)))
+
+-- what the bench wants of its plan
+pub ruleset plans = (planned_room, planned_small, heads_are)
+
+-- the bench: the first heads of the table, as they start and after all rounds
+module _ (file : List ℕ) (table begun last : List Head) (proposals : List ℕ) (plan : Plan) (r : ℕ)
+    (is : plan ≡ plan_of file (length table)) (are : proposals ≡ take plan.n (drop 2 file))
+    (starts : begun ≡ placed (length (take plan.n table)) (λ i. (start_of (length (take plan.n table)) i (get_or proposals i 0)).head) (take plan.n table))
+    (rounds : last ≡ rounds_in file plan r begun) (ends : r ≡ plan.rounds) where
+  abbrev heads : List Head
+  heads = take plan.n table
+
+  abbrev rest : List Head
+  rest = drop plan.n table
+
+  many : length heads ≡ plan.n
+  many = heads_are file table plan is
+
+  started : begun ≡ starts_in file plan.n heads
+  unfolding placed
+  started =
+      starts ∙ ap (λ (n : ℕ). placed n (λ i. (start_of n i (get_or proposals i 0)).head) heads) many
+      ∙ same_placed plan.n _ _ heads (λ s h. ap (λ (byte : ℕ). (start_of plan.n s byte).head)
+      (ap (λ (part : List ℕ). get_or part s 0) are ∙ byte_of_part file 2 plan.n s h))
+
+  many_last : length last ≡ plan.n
+  many_last =
+      ap length (rounds ∙ ap (rounds_in file plan r) started)
+      ∙ rounds_length file plan r (starts_in file plan.n heads) ∙ placed_length plan.n (start_in file plan.n) heads ∙ many
+
+  -- what the table holds then
+  pub table_is : last ++ rest ≡ table_after file table
+  unfolding table_after
+  table_is =
+      ap (λ (l : List Head). l ++ rest) (rounds ∙ ap₂ (λ (r : ℕ) (t : List Head). rounds_in file plan r t) ends started)
+      ∙ sym (rounds-append file plan plan.rounds (starts_in file plan.n heads) rest
+      (omega (arith, placed_length plan.n (start_in file plan.n) heads, many)))
+      ∙ ap (rounds_in file plan plan.rounds) (sym (placed-append plan.n (start_in file plan.n) heads rest (omega (arith, many))))
+      ∙ ap (λ (t : List Head). rounds_in file plan plan.rounds (starts_in file plan.n t)) (take-append-drop plan.n table)
+      ∙ ap (λ (p : Plan). rounds_in file p p.rounds (starts_in file p.n table)) is
+
+  -- and the answer
+  pub answer_is : outcome_in file plan (count_by is_written last) ≡ outcome_of file table
+  unfolding outcome_of
+  answer_is =
+      ap (λ (decided : ℕ). outcome_in file plan decided)
+      (ap (count_by is_written) (sym (take_all plan.n last (omega (arith, many_last))))
+      ∙ sym (decided_is last rest plan.n (omega (arith, many_last)))
+      ∙ ap (λ (t : List Head). decided_in t plan.n) table_is)
+      ∙ ap (λ (p : Plan). outcome_in file p (decided_in (table_after file table) p.n)) is
