@@ -51,9 +51,7 @@ fn read_input(mut stdin: Stdin, buffer: &mut [u8]) -> Input
 
 fn print_report(rt: &HostRuntime, file: &[u8]) {
     let text = run::report(file);
-    let bytes = text.bytes;
-    let length = text.length;
-    if let Err(error) = rt.write_all(&bytes[..length]) {
+    if let Err(error) = rt.write_all(text.as_bytes()) {
         fail(&rt.stderr(), b"bench: standard output", error);
     }
 }

@@ -1,15 +1,9 @@
 -- Texts that grow: what a word at the end leaves, and that words one after the other are their bytes.
-use Prim.Native.Nat.{ℕ, zero, suc, ◌+◌, ◌-◌, ◌*◌, ◌≤◌, ◌<◌, min}
 use Prim.Native.String.{String}
-use mathlib.Core.Path.{◌≡◌, refl, sym, ap, ap₂, ◌∙◌}
-use mathlib.Core.List.{List, [], ◌++◌, append_assoc, append-nil}
-use mathlib.Core.Bool.{Bool, true, false, cond}
-use native.Mathlib.Decide.{dec_lt}
-use native.Mathlib.Omega.{arith}
-use lib.ListN.{length, take, drop, replicate, length-append}
+use Rattle.std.proofs.Common.{◌≡◌, ℕ, zero, suc, ◌+◌, ◌-◌, ◌*◌, ◌^◌, ◌<◌, ◌≤◌, min, Bool, true, false, cond, List, [], ◌++◌, length, take, drop, replicate, sym, ap, ap₂, ◌∙◌, arith, length-append, length-take, length-take-le, refl, ◌∷◌}
+use Rattle.std.proofs.lemmas.List.{append_assoc, take_min, take_at, drop_at, drop-replicate}
+use borrow.Rule.Slice.PartMut.{put_mid}
 use lib.Dec.{eqb}
-use lib.Seq.{paste, paste-zero, length-paste, take-paste, drop-paste, drop-drop, take-length, take-append_seam}
-use lib.Seq.{take-append-le, take-append-add, drop-append-add}
 use Rattle.rules.specs.declared.Value.{Value}
 use Rattle.rules.specs.declared.Value.TheVariants.{Zero, One, Blank}
 use Rattle.rules.specs.declared.Status.{Status}
@@ -18,145 +12,100 @@ use Rattle.rules.specs.declared.Decision.{Decision}
 use Rattle.rules.specs.declared.Decision.TheVariants.{Zero as ForZero, One as ForOne, Unwritten}
 use Rattle.rules.specs.declared.Head.{Head}
 use Rattle.file.specs.declared.Outcome.{Outcome}
-use Rattle.file.specs.declared.Text.{Text}
 use Rattle.file.specs.Table.{head_of}
 use Rattle.file.specs.Benched.{benched_of}
 use Rattle.file.specs.Report.{word, figure, value_word, status_word, decision_word, first_line, head_line, head_lines}
-use Rattle.file.specs.Report.{last_line, refusal_line, report_of, text_of}
-use Rattle.file.proofs.Printing.Decimals.{decimal_short}
-use Rattle.run.specs.Writing.{Held, no_text, fitting, with_word}
+use Rattle.io.specs.Digits.{last_digits, IsDigitCount}
+use Rattle.file.specs.Report.{decimal, last_line, refusal_line, report_of}
+use Rattle.file.proofs.Computing.{reporting}
+use Rattle.file.proofs.Printing.Decimals.{places_is, decimal_short}
+use Rattle.run.specs.declared.text.Text.TheInside.{Inside}
+use Rattle.run.specs.Text.{text_of}
+use Rattle.run.specs.Writing.{with_word}
 
--- a word leaves a text that holds no more than its bytes
-pub word_held : (text : Text) (word : List ℕ) → Held text → Held (with_word text word)
-unfolding with_word
-word_held text word held = (
-  length-paste text.bytes text.length word (fitting text word) (omega (arith, held.0, held.1)) (omega arith)
-      ∙ held.0,
-  omega (arith, held.1),
-)
+-- under `unfolding writing` a line is its words
+unfoldable pub writing : Unit {0}
+unfolding first_line head_line last_line refusal_line
+writing = tt
 
--- what the code leaves is the text with the word
-pub written : (text : Text) (word bytes : List ℕ) (many : ℕ) → bytes
-    ≡ paste text.bytes text.length word (fitting text word) → many ≡ fitting text word
-    → ◌≡◌ {A = Text} (record { bytes = bytes; length = text.length + many }) (with_word text word)
-unfolding with_word
-written text word bytes many a b = rw (a, b) refl
-
-abbrev as_text : List ℕ → ℕ → Text
-as_text bytes many = record { bytes = bytes; length = many }
-
--- no word changes nothing
-pub word_none : (text : Text) → text ≡ with_word text []
-unfolding with_word
-word_none text =
-    let none : fitting text [] ≡ 0 = omega arith in
-    let same : text.length ≡ text.length + 0 = omega arith in
-    rw none (ap₂ (λ (b : List ℕ) (l : ℕ). as_text b l) (paste-zero text.bytes text.length []) same)
-
--- two words as far as there is room
-take_both : (a b : List ℕ) (f g : ℕ) → f ≤ length a → (f < length a → g ≡ 0)
-    → take (f + g) (a ++ b) ≡ take f a ++ take g b
-take_both a b f g low full = go (dec_lt f (length a))
-  where
-    go : Dec (f < length a) → take (f + g) (a ++ b) ≡ take f a ++ take g b
-    go (yes cut) =
-        let none = full cut in
-        let all : f + 0 ≡ f = omega arith in
-        rw none
-        (take-append-le (f + 0) a b (omega arith) ∙ ap (λ (k : ℕ). take k a) all ∙ sym (append-nil (take f a)))
-    go (no whole) =
-        let all : f ≡ length a = omega (arith, low, whole) in
-        rw all (take-append-add a b g ∙ ap (λ (l : List ℕ). l ++ take g b) (sym (take-length a)))
+-- of two words, as much as there is room for
+take_both : (room : ℕ) (a b : List ℕ) → take room (a ++ b) ≡ take room a ++ take (room - length a) b
+take_both zero a b = let none : 0 - length a ≡ 0 = omega arith in rw none refl
+take_both (suc room) [] b = let all : suc room - 0 ≡ suc room = omega arith in rw all refl
+take_both (suc room) (x ∷ a) b =
+    let one_less : suc room - suc (length a) ≡ room - length a = omega arith in
+    rw one_less (ap (λ (l : List ℕ). x ∷ l) (take_both room a b))
 
 -- a word after a word is both at once
-pub word_word : (text : Text) (a b : List ℕ) → Held text → with_word (with_word text a) b ≡ with_word text (a ++ b)
+pub word_word : (text a b : List ℕ) → with_word (with_word text a) b ≡ with_word text (a ++ b)
 unfolding with_word
-word_word text a b held = ap₂ (λ (l : List ℕ) (k : ℕ). as_text l k) front (omega (arith, both))
-  where
-    B : List ℕ
-    B = text.bytes
+word_word text a b =
+    let room : ℕ = 4096 - length text in
+    let left : 4096 - length (text ++ take room a) ≡ room - length a = omega (arith, length-append text (take room a), length-take room a) in
+    rw left (append_assoc text (take room a) (take (room - length a) b) ∙ ap (λ (l : List ℕ). text ++ l) (sym (take_both room a b)))
 
-    at : ℕ
-    at = text.length
+-- the digits that the library gives are a number's fewest
+pub digits_are : (n k : ℕ) → IsDigitCount 10 1 n k → n < 2 ^ 64 → last_digits 10 k n ≡ decimal n
+unfolding decimal
+digits_are n k fewest small = ap (λ (j : ℕ). last_digits 10 j n) (places_is n k fewest (omega arith))
 
-    f : ℕ
-    f = fitting text a
+abbrev as_text : List ℕ → ℕ → Inside
+as_text bytes many = record { bytes = bytes; length = many }
 
-    g : ℕ
-    g = min (length b) (4096 - (at + f))
+-- as much of a word as fits, written behind a text's bytes
+module _ (text : Inside) (word part : List ℕ) (count : ℕ) (low : text.length ≤ 4096) (is : text ≡ text_of (take text.length text.bytes))
+    (fits : count ≡ min (length word) (4096 - text.length)) (taken : part ≡ take count word) where
+  abbrev said : List ℕ
+  said = take text.length text.bytes
 
-    both : fitting text (a ++ b) ≡ f + g
-    both = omega (arith, length-append a b, held.1)
+  abbrev zeros : ℕ → List ℕ
+  zeros n = replicate (4096 - n) 0
 
-    rest : drop (at + f + g) (paste B at a f) ≡ drop (at + (f + g)) B
-    rest =
-        let sum : at + f + g ≡ at + (f + g) = omega arith in
-        sym (drop-drop g (at + f) (paste B at a f))
-        ∙ ap (drop g) (drop-paste B at a f (omega (arith, held.0, held.1)) (omega arith))
-        ∙ drop-drop g (at + f) B ∙ ap (λ (k : ℕ). drop k B) sum
+  said_long : length said ≡ text.length
+  said_long = sym (ap (λ (t : Inside). t.length) is)
 
-    front : paste (paste B at a f) (at + f) b g ≡ paste B at (a ++ b) (fitting text (a ++ b))
-    front =
-        ap₂ (λ (x y : List ℕ). x ++ take g b ++ y)
-        (take-paste B at a f (omega (arith, held.0, held.1)) (omega arith)) rest
-        ∙ ap (λ (x : List ℕ). x ++ drop (at + (f + g)) B)
-        (append_assoc (take at B) (take f a) (take g b)
-        ∙ ap (λ (x : List ℕ). take at B ++ x) (sym (take_both a b f g (omega arith) (λ cut. omega (arith, cut)))))
-        ∙ ap (paste B at (a ++ b)) (sym both)
+  part_long : length part ≡ count
+  part_long = ap length taken ∙ length-take-le count word (omega (arith, fits))
 
--- a text with what was said so far, and with a word more
-pub then_word : (text before after : Text) (said word : List ℕ) → Held text → before ≡ with_word text said
-    → after ≡ with_word before word → after ≡ with_word text (said ++ word)
-then_word text before after said word held e f =
-    f ∙ ap (λ (t : Text). with_word t word) e ∙ word_word text said word held
+  bytes_are : text.bytes ≡ said ++ zeros (length said)
+  bytes_are = ap (λ (t : Inside). t.bytes) is
 
--- and with two more, put in as one
-pub then_two : (text before after : Text) (said first second : List ℕ) → Held text → before ≡ with_word text said
-    → after ≡ with_word before (first ++ second) → after ≡ with_word text (said ++ first ++ second)
-then_two text before after said first second held e f =
-    then_word text before after said (first ++ second) held e f ∙ ap (with_word text) (sym (append_assoc said first second))
+  left : 4096 - length said - count ≡ 4096 - length (said ++ part)
+  left = omega (arith, length-append said part, part_long, said_long)
 
--- ---- the bytes, as long as there is room
+  rest : drop count (drop text.length text.bytes) ≡ zeros (length (said ++ part))
+  rest =
+      ap (λ (l : List ℕ). drop count (drop text.length l)) bytes_are
+      ∙ ap (drop count) (drop_at said (zeros (length said)) text.length said_long)
+      ∙ drop-replicate count (4096 - length said) 0 ∙ ap (λ (k : ℕ). replicate k 0) left
 
-drop_zeros : (k n : ℕ) → drop {A = ℕ} k (replicate n 0) ≡ replicate (n - k) 0
-drop_zeros zero n = let e : n ≡ n - 0 = omega arith in ap (λ (m : ℕ). replicate m 0) e
-drop_zeros (suc k) zero = let e : 0 ≡ 0 - suc k = omega arith in ap (λ (m : ℕ). replicate m 0) e
-drop_zeros (suc k) (suc n) =
-    let e : n - k ≡ suc n - suc k = omega arith in drop_zeros k n ∙ ap (λ (m : ℕ). replicate m 0) e
+  abbrev written : List ℕ
+  written = put_mid text.length count text.bytes part
 
--- a text of these bytes, and a word at its end
-word_is : (bytes word : List ℕ) → length bytes + length word ≤ 4096
-    → with_word (text_of bytes) word ≡ text_of (bytes ++ word)
-unfolding with_word
-word_is bytes word room = ap₂ (λ (b : List ℕ) (l : ℕ). as_text b l) front long
-  where
-    zeros : List ℕ
-    zeros = replicate (4096 - length bytes) 0
+  written_is : written ≡ (said ++ part) ++ zeros (length (said ++ part))
+  written_is = ap (λ (l : List ℕ). said ++ (part ++ l)) rest ∙ sym (append_assoc said part (zeros (length (said ++ part))))
 
-    all : min (length word) (4096 - length bytes) ≡ length word
-    all = omega arith
+  end_is : text.length + count ≡ length (said ++ part)
+  end_is = omega (arith, length-append said part, part_long, said_long)
 
-    rest : drop (length word) zeros ≡ replicate (4096 - length (bytes ++ word)) 0
-    rest =
-        let e : 4096 - length bytes - length word ≡ 4096 - length (bytes ++ word) =
-        omega (arith, length-append bytes word) in
-        drop_zeros (length word) (4096 - length bytes) ∙ ap (λ (m : ℕ). replicate m 0) e
+  front : take (text.length + count) written ≡ said ++ part
+  front = ap (take (text.length + count)) written_is
+      ∙ take_at (said ++ part) (zeros (length (said ++ part))) (text.length + count) (sym end_is)
 
-    front : paste (bytes ++ zeros) (length bytes) word (min (length word) (4096 - length bytes)) ≡ bytes ++ word
-        ++ replicate (4096 - length (bytes ++ word)) 0
-    front =
-        ap (paste (bytes ++ zeros) (length bytes) word) all
-        ∙ ap (λ (a : List ℕ). a ++ take (length word) word ++ drop (length bytes + length word) (bytes ++ zeros))
-        (take-append_seam bytes zeros)
-        ∙ ap (λ (a : List ℕ). bytes ++ a ++ drop (length bytes + length word) (bytes ++ zeros)) (take-length word)
-        ∙ ap (λ (a : List ℕ). bytes ++ word ++ a) (drop-append-add bytes zeros (length word) ∙ rest)
+  pub still_filled : ◌≡◌ {A = Inside} (record { bytes = written; length = text.length + count }) (text_of (take (text.length + count) written))
+  still_filled = ap₂ as_text written_is end_is ∙ ap text_of (sym front)
 
-    long : length bytes + min (length word) (4096 - length bytes) ≡ length (bytes ++ word)
-    long = omega (arith, length-append bytes word)
+  pub word_written : take (text.length + count) written ≡ with_word said word
+  unfolding with_word
+  word_written =
+      let room : count ≡ min (4096 - length said) (length word) = omega (arith, fits, said_long) in
+      front ∙ ap (λ (l : List ℕ). said ++ l) (taken ∙ ap (λ (k : ℕ). take k word) room ∙ take_min (4096 - length said) word)
 
--- from nothing: the word's bytes
-pub word_is_text : (word : List ℕ) → length word ≤ 4096 → with_word no_text word ≡ text_of word
-word_is_text word room = word_is [] word (omega (arith, room))
+-- a text of 4,096 bytes: what is printed, and zeros
+pub a_text_is_filled_with_zeros : text_of (report_of [])
+    ≡ record { bytes = word "refused 12 at 0\n" ++ replicate 4080 0; length = 16 }
+unfolding reporting
+a_text_is_filled_with_zeros = refl
 
 -- ---- a report is short
 
