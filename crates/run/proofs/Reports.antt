@@ -15,7 +15,7 @@ use Rattle.run.proofs.Planned.{planned_room}
 use Rattle.run.proofs.Texts.{word_word, report_short}
 
 -- a vote in the table of 32 has at most 32 heads
-pub benched_few : (file : List ℕ) → (benched_of file).outcome.n ≤ 32
+benched_few : (file : List ℕ) → (benched_of file).outcome.n ≤ 32
 unfolding outcome_of
 benched_few file = planned_room file 32
 
@@ -31,7 +31,7 @@ unfolding with_word
 with_short word short = take_all 4096 word short
 
 -- the heads past those that have a line have no part in the lines
-pub lines_of_part : (n : ℕ) (heads : List Head) → n ≤ length heads → head_lines (length (take n heads)) (take n heads) ≡ head_lines n heads
+lines_of_part : (n : ℕ) (heads : List Head) → n ≤ length heads → head_lines (length (take n heads)) (take n heads) ≡ head_lines n heads
 unfolding head_lines
 lines_of_part n heads inside = ap (λ (k : ℕ). head_lines k (take n heads)) (length-take-le n heads inside) ∙ go n (omega arith)
   where

@@ -1,7 +1,6 @@
 -- Texts that grow: what a word at the end leaves, and that words one after the other are their bytes.
-use Prim.Native.String.{String}
-use Rattle.std.proofs.Common.{◌≡◌, ℕ, zero, suc, ◌+◌, ◌-◌, ◌*◌, ◌^◌, ◌<◌, ◌≤◌, min, Bool, true, false, cond, List, [], ◌++◌, length, take, drop, replicate, sym, ap, ap₂, ◌∙◌, arith, length-append, length-take, length-take-le, refl, ◌∷◌}
-use Rattle.std.proofs.lemmas.List.{append_assoc, take_min, take_at, drop_at, drop-replicate}
+use Rattle.std.proofs.Common.{◌≡◌, ℕ, zero, suc, ◌+◌, ◌-◌, ◌*◌, ◌^◌, ◌<◌, ◌≤◌, min, Bool, true, false, cond, List, [], ◌++◌, length, take, replicate, sym, ap, ap₂, ◌∙◌, arith, length-append, length-take, refl, rules}
+use Rattle.std.proofs.lemmas.List.{append_assoc, take_min, take_at, drop_at, drop-replicate, same_lists, places}
 use borrow.Rule.Slice.PartMut.{put_mid}
 use lib.Dec.{eqb}
 use Rattle.rules.specs.declared.Value.{Value}
@@ -14,7 +13,7 @@ use Rattle.rules.specs.declared.Head.{Head}
 use Rattle.file.specs.declared.Outcome.{Outcome}
 use Rattle.file.specs.Table.{head_of}
 use Rattle.file.specs.Benched.{benched_of}
-use Rattle.file.specs.Report.{word, figure, value_word, status_word, decision_word, first_line, head_line, head_lines}
+use Rattle.file.specs.Report.{word, value_word, status_word, decision_word, first_line, head_line, head_lines}
 use Rattle.io.specs.Digits.{last_digits, IsDigitCount}
 use Rattle.file.specs.Report.{decimal, last_line, refusal_line, report_of}
 use Rattle.file.proofs.Computing.{reporting}
@@ -28,78 +27,37 @@ unfoldable pub writing : Unit {0}
 unfolding first_line head_line last_line refusal_line
 writing = tt
 
--- of two words, as much as there is room for
-take_both : (room : ℕ) (a b : List ℕ) → take room (a ++ b) ≡ take room a ++ take (room - length a) b
-take_both zero a b = let none : 0 - length a ≡ 0 = omega arith in rw none refl
-take_both (suc room) [] b = let all : suc room - 0 ≡ suc room = omega arith in rw all refl
-take_both (suc room) (x ∷ a) b =
-    let one_less : suc room - suc (length a) ≡ room - length a = omega arith in
-    rw one_less (ap (λ (l : List ℕ). x ∷ l) (take_both room a b))
-
 -- a word after a word is both at once
 pub word_word : (text a b : List ℕ) → with_word (with_word text a) b ≡ with_word text (a ++ b)
 unfolding with_word
-word_word text a b =
-    let room : ℕ = 4096 - length text in
-    let left : 4096 - length (text ++ take room a) ≡ room - length a = omega (arith, length-append text (take room a), length-take room a) in
-    rw left (append_assoc text (take room a) (take (room - length a) b) ∙ ap (λ (l : List ℕ). text ++ l) (sym (take_both room a b)))
+word_word text a b = same_lists _ _ (search (rules, places)) (λ k d h. grind (arith, places))
 
 -- the digits that the library gives are a number's fewest
 pub digits_are : (n k : ℕ) → IsDigitCount 10 1 n k → n < 2 ^ 64 → last_digits 10 k n ≡ decimal n
 unfolding decimal
 digits_are n k fewest small = ap (λ (j : ℕ). last_digits 10 j n) (places_is n k fewest (omega arith))
 
-abbrev as_text : List ℕ → ℕ → Inside
-as_text bytes many = record { bytes = bytes; length = many }
+abbrev fields : List ℕ → ℕ → Inside
+fields bytes many = record { bytes = bytes; length = many }
 
--- as much of a word as fits, written behind a text's bytes
-module _ (text : Inside) (word part : List ℕ) (count : ℕ) (low : text.length ≤ 4096) (is : text ≡ text_of (take text.length text.bytes))
-    (fits : count ≡ min (length word) (4096 - text.length)) (taken : part ≡ take count word) where
-  abbrev said : List ℕ
-  said = take text.length text.bytes
+-- the bytes of a text that holds just these and zeros
+pub bytes_of : (text : Inside) (bytes : List ℕ) → text ≡ text_of bytes → take text.length text.bytes ≡ bytes
+bytes_of text bytes is = rw is (take_at bytes _ _ refl)
 
-  abbrev zeros : ℕ → List ℕ
-  zeros n = replicate (4096 - n) 0
-
-  said_long : length said ≡ text.length
-  said_long = sym (ap (λ (t : Inside). t.length) is)
-
-  part_long : length part ≡ count
-  part_long = ap length taken ∙ length-take-le count word (omega (arith, fits))
-
-  bytes_are : text.bytes ≡ said ++ zeros (length said)
-  bytes_are = ap (λ (t : Inside). t.bytes) is
-
-  left : 4096 - length said - count ≡ 4096 - length (said ++ part)
-  left = omega (arith, length-append said part, part_long, said_long)
-
-  rest : drop count (drop text.length text.bytes) ≡ zeros (length (said ++ part))
-  rest =
-      ap (λ (l : List ℕ). drop count (drop text.length l)) bytes_are
-      ∙ ap (drop count) (drop_at said (zeros (length said)) text.length said_long)
-      ∙ drop-replicate count (4096 - length said) 0 ∙ ap (λ (k : ℕ). replicate k 0) left
-
-  abbrev written : List ℕ
-  written = put_mid text.length count text.bytes part
-
-  written_is : written ≡ (said ++ part) ++ zeros (length (said ++ part))
-  written_is = ap (λ (l : List ℕ). said ++ (part ++ l)) rest ∙ sym (append_assoc said part (zeros (length (said ++ part))))
-
-  end_is : text.length + count ≡ length (said ++ part)
-  end_is = omega (arith, length-append said part, part_long, said_long)
-
-  front : take (text.length + count) written ≡ said ++ part
-  front = ap (take (text.length + count)) written_is
-      ∙ take_at (said ++ part) (zeros (length (said ++ part))) (text.length + count) (sym end_is)
-
-  pub still_filled : ◌≡◌ {A = Inside} (record { bytes = written; length = text.length + count }) (text_of (take (text.length + count) written))
-  still_filled = ap₂ as_text written_is end_is ∙ ap text_of (sym front)
-
-  pub word_written : take (text.length + count) written ≡ with_word said word
-  unfolding with_word
-  word_written =
-      let room : count ≡ min (4096 - length said) (length word) = omega (arith, fits, said_long) in
-      front ∙ ap (λ (l : List ℕ). said ++ l) (taken ∙ ap (λ (k : ℕ). take k word) room ∙ take_min (4096 - length said) word)
+-- as much of a word as fits, put behind a text's bytes
+pub word_put : (text : Inside) (said word part : List ℕ) (count : ℕ) → text ≡ text_of said → count ≡ min (length word) (4096 - text.length)
+    → part ≡ take count word
+    → fields (put_mid text.length (text.length + count - text.length) text.bytes part) (text.length + count) ≡ text_of (with_word said word)
+unfolding with_word
+word_put text said word part count is fits taken =
+    let start : text.length ≡ length said = ap (λ (t : Inside). t.length) is in
+    let size : length said + count - length said ≡ count = omega arith in
+    let all : take (4096 - length said) word ≡ part =
+    sym (taken ∙ ap (λ (k : ℕ). take k word) (omega (arith, fits, start)) ∙ take_min (4096 - length said) word) in
+    let long : length part ≡ count = ap length taken ∙ length-take count word ∙ omega (arith, fits) in
+    let left : 4096 - length (said ++ part) ≡ 4096 - length said - count = omega (arith, length-append said part, long) in
+    rw (is, size, all, left)
+    (ap₂ fields (simp (take_at said, drop_at said, drop-replicate, append_assoc)) (omega (arith, length-append said part, long)))
 
 -- a text of 4,096 bytes: what is printed, and zeros
 pub a_text_is_filled_with_zeros : text_of (report_of [])
@@ -109,38 +67,25 @@ a_text_is_filled_with_zeros = refl
 
 -- ---- a report is short
 
-record Short (bytes : List ℕ) (most : ℕ) : Type 0 where
-  fits : length bytes ≤ most
+value_short : (v : Value) → length (value_word v) ≤ 5
+value_short Zero = omega arith
+value_short One = omega arith
+value_short Blank = omega arith
 
-both : {a b : List ℕ} {k l : ℕ} → Short a k → Short b l → Short (a ++ b) (k + l)
-both {a} {b} x y = record { fits = omega (arith, length-append a b, x.fits, y.fits) }
+status_short : (s : Status) → length (status_word s) ≤ 9
+status_short Undecided = omega arith
+status_short Decided = omega arith
 
-a_word : (name : String) → Short (word name) (length (word name))
-a_word name = record { fits = omega arith }
-
-a_figure : (name : String) (number : ℕ) → Short (figure name number) (length (word name) + 20)
-a_figure name number = both (a_word name) (record { fits = decimal_short number })
-
-a_value : (v : Value) → Short (value_word v) 5
-a_value Zero = record { fits = omega arith }
-a_value One = record { fits = omega arith }
-a_value Blank = record { fits = omega arith }
-
-a_status : (s : Status) → Short (status_word s) 9
-a_status Undecided = record { fits = omega arith }
-a_status Decided = record { fits = omega arith }
-
-a_decision : (d : Decision) → Short (decision_word d) 4
-a_decision ForZero = record { fits = omega arith }
-a_decision ForOne = record { fits = omega arith }
-a_decision Unwritten = record { fits = omega arith }
+decision_short : (d : Decision) → length (decision_word d) ≤ 4
+decision_short ForZero = omega arith
+decision_short ForOne = omega arith
+decision_short Unwritten = omega arith
 
 line_short : (s : ℕ) (h : Head) → length (head_line s h) ≤ 96
 unfolding head_line
 line_short s h =
-    (both (both (both (both (both (both (both (both (a_figure "head " s) (a_figure " phase " h.phase))
-    (a_word " value ")) (a_value h.value)) (a_word " status ")) (a_status h.status)) (a_word " decision "))
-    (a_decision h.decision)) (a_word "\n")).fits
+    simp length-append
+    (omega (arith, decimal_short s, decimal_short h.phase, value_short h.value, status_short h.status, decision_short h.decision))
 
 lines_short : (n : ℕ) (heads : List Head) → length (head_lines n heads) ≤ n * 96
 unfolding head_lines
@@ -155,19 +100,15 @@ lines_short (suc k) heads =
 
 first_short : (o : Outcome) → length (first_line o) ≤ 80
 unfolding first_line
-first_short o =
-    (both (both (both (a_figure "heads " o.n) (a_figure " need " o.needed)) (a_figure " bound " o.bound))
-    (a_word "\n")).fits
+first_short o = simp length-append (omega (arith, decimal_short o.n, decimal_short o.needed, decimal_short o.bound))
 
 last_short : (o : Outcome) → length (last_line o) ≤ 83
 unfolding last_line
-last_short o =
-    (both (both (both (a_figure "rounds " o.rounds) (a_figure " good " o.good))
-    (a_figure " decided " o.decided)) (a_word "\n")).fits
+last_short o = simp length-append (omega (arith, decimal_short o.rounds, decimal_short o.good, decimal_short o.decided))
 
 refusal_short : (o : Outcome) → length (refusal_line o) ≤ 53
 unfolding refusal_line
-refusal_short o = (both (both (a_figure "refused " o.number) (a_figure " at " o.place)) (a_word "\n")).fits
+refusal_short o = simp length-append (omega (arith, decimal_short o.number, decimal_short o.place))
 
 pub report_short : (file : List ℕ) → (benched_of file).outcome.n ≤ 32 → length (report_of file) ≤ 4096
 unfolding report_of

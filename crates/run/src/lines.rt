@@ -60,6 +60,7 @@ impl Text {
     }
 }
 
+// Words, and no `Display`: `write!` tells what it has written only on `Ok`, and `report` cannot fail.
 fn value_word(value: Value) -> &'static [u8]
     ensures { result.now ≡ value_word value }
 {

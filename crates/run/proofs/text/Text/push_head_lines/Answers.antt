@@ -1,5 +1,5 @@
 use Rattle.std.proofs.Common.{rules, arith, ◌≡◌, suc, ◌+◌}
-use Rattle.std.proofs.lemmas.List.{append-nil, get_or_default}
+use Rattle.std.proofs.lemmas.List.{append-nil}
 use Rattle.file.specs.Report.{head_lines}
 use Rattle.run.specs.Writing.{with_word}
 use Rattle.run.proofs.Texts.{word_word}
@@ -13,4 +13,4 @@ pub loop-s-preserved : goal.loop-s-preserved
 unfolding head_lines
 loop-s-preserved c =
     let more : c.loop-s.s + 1 ≡ suc c.loop-s.s = omega arith in
-    rw more (search (rules, word_word, get_or_default))
+    rw more (search (rules, word_word))
