@@ -3,57 +3,38 @@
 // were not read.
 #![tactic(auto)]
 
+ghost use Rattle.std.specs.Prelude.{IfOk};
 ghost use Rattle.io.specs.Counts.{IsPrefixLen};
 
-use std::io::{Cursor, Error, Print, Read, Stdin, Write};
-
-// How many bytes were read; `failed` where a read failed before the input's end, and why.
-#[derive(Drop)]
-struct Input {
-    length: usize,
-    failed: Option<Error>,
-}
+use std::io::{self, Cursor, Error, Print, Read, Stdin, Write};
 
 // The buffer holds 65,536 bytes, and the first 41,002 of a file decide its report, whatever follows.
 fn main(rt: HostRuntime) {
     let mut buffer = [0; 65536];
-    let input = read_input(rt.stdin(), &mut buffer);
-    if let Some(error) = input.failed {
-        fail(&rt.stderr(), b"bench: standard input", error);
-        return;
+    match read_input(rt.stdin(), &mut buffer) {
+        Ok(length) => print_report(&rt, &buffer[..length]),
+        Err(error) => fail(&rt.stderr(), b"bench: standard input", error),
     }
-    let length = input.length;
-    print_report(&rt, &buffer[..length]);
 }
 
-// Reads to the input's end, as far as the buffer goes.
-fn read_input(mut stdin: Stdin, buffer: &mut [u8]) -> Input
-    ensures { IsPrefixLen result.length buffer.new }
+// Reads to the input's end, as far as the buffer goes, and gives how many bytes were read.
+// Its own loop: std's read on where a signal interrupts a read, and this program tells that as trouble.
+fn read_input(mut stdin: Stdin, buffer: &mut [u8]) -> io::Result<usize>
+    ensures { IfOk result (λ length. IsPrefixLen length buffer.new) }
 {
-    let mut done: usize = 0;
+    let mut done = 0;
     while done < buffer.len() {
-        match stdin.read(&mut buffer[done..]) {
-            Err(error) => {
-                return Input {
-                    length: done,
-                    failed: Some(error),
-                };
-            }
-            Ok(0) => break,
-            Ok(more) => done += more,
+        match stdin.read(&mut buffer[done..])? {
+            0 => break,
+            more => done += more,
         }
     }
-    Input {
-        length: done,
-        failed: None,
-    }
+    Ok(done)
 }
 
 fn print_report(rt: &HostRuntime, file: &[u8]) {
     let text = run::report(file);
-    let bytes = text.bytes;
-    let length = text.length;
-    if let Err(error) = rt.write_all(&bytes[..length]) {
+    if let Err(error) = rt.write_all(text.as_bytes()) {
         fail(&rt.stderr(), b"bench: standard output", error);
     }
 }

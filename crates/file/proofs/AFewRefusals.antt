@@ -11,7 +11,7 @@ use Rattle.file.specs.declared.Outcome.{Outcome}
 use Rattle.file.specs.Section.{body_of, proposals_of, needed_of, losses_of, coins_of}
 use Rattle.file.specs.Figures.{outcome_of}
 use Rattle.file.specs.Benched.{benched_of}
-use Rattle.file.specs.Report.{word, report_of, text_of}
+use Rattle.file.specs.Report.{word, report_of}
 use Rattle.file.proofs.Computing.{reporting}
 
 -- a number and its place
@@ -132,12 +132,6 @@ pub refusals_print :
     ≡ (word "refused 12 at 0\n" ∷ word "refused 15 at 27\n" ∷ word "refused 12 at 300\n" ∷ [])
 unfolding reporting
 refusals_print = refl
-
--- a text of 4,096 bytes: what is printed, and zeros
-pub a_text_is_filled_with_zeros : text_of (report_of [])
-    ≡ record { bytes = word "refused 12 at 0\n" ++ replicate 4080 0; length = 16 }
-unfolding reporting
-a_text_is_filled_with_zeros = refl
 
 -- "A section reader hands back that section's body as the part of the caller's bytes it stands in, an empty part at a
 -- refusal"

@@ -1,7 +1,7 @@
 -- What the program prints. Document 01, 'Run file and bench': "First line: n, k, the good-round bound. One line a head,
 -- its last state .. Last line: rounds run, good rounds," and by W2 of document 02 "heads whose decision is written". "A
 -- refusal prints one line only".
-use Rattle.std.specs.Prelude.{ℕ, zero, suc, ◌-◌, ◌^◌, ◌≡◌, List, [], ◌∷◌, ◌++◌, cond, length, replicate, ltb, eqb}
+use Rattle.std.specs.Prelude.{ℕ, zero, suc, ◌^◌, ◌≡◌, List, [], ◌∷◌, ◌++◌, cond, ltb, eqb}
 use Prim.Native.Char.{code}
 use Prim.Native.String.{String, [] as none, ◌∷◌ as ◌then◌}
 use Rattle.io.specs.Digits.{last_digits}
@@ -14,7 +14,6 @@ use Rattle.rules.specs.declared.Decision.TheVariants.{Zero as ForZero, One as Fo
 use Rattle.rules.specs.declared.Head.{Head}
 use Rattle.rules.specs.Below.{first}
 use Rattle.file.specs.declared.Outcome.{Outcome}
-use Rattle.file.specs.declared.Text.{Text}
 use Rattle.file.specs.Table.{head_of}
 use Rattle.file.specs.Benched.{benched_of}
 
@@ -77,7 +76,3 @@ unfoldable pub report_of : List ℕ → List ℕ
 report_of file =
     let o = (benched_of file).outcome in
     cond (eqb o.number 0) (first_line o ++ head_lines o.n (benched_of file).heads ++ last_line o) (refusal_line o)
-
--- a text of these bytes, the rest of it zero
-abbrev pub text_of : List ℕ → Text
-text_of bytes = record { bytes = bytes ++ replicate (4096 - length bytes) 0; length = length bytes }

@@ -45,10 +45,3 @@ pub struct Benched {
     pub outcome: Outcome,
     pub heads: [Head; 32],
 }
-
-// A text of at most 4,096 bytes: its first `length` bytes; the others are zero.
-#[derive(Drop)]
-pub struct Text {
-    pub bytes: [u8; 4096],
-    pub length: usize,
-}

@@ -21,11 +21,15 @@ use Rattle.file.specs.Benched.{benched_of}
 use Rattle.run.proofs.printed.report.Reads as report
 use Rattle.run.proofs.table.bench.Reads as bench_reads
 use Rattle.run.proofs.table.run_file.Reads as run_file_reads
+use Rattle.run.proofs.text.Text.as_bytes.Reads as as_bytes
 use Rattle.run.specs.contracts.table.bench as bench
 use Rattle.run.specs.contracts.table.run_file as run_file
 
 pub report_only : (κs : _) (a : _) (r r' : _) (s s' : _) → report.Post κs a r s → report.Post κs a r' s' → r ≡ r'
 report_only κs a r r' s s' p q = only p q
+
+pub as_bytes_only : (κs : _) (a : _) (r r' : _) (s s' : _) → as_bytes.Post κs a r s → as_bytes.Post κs a r' s' → r.now ≡ r'.now
+as_bytes_only κs a r r' s s' p q = only p q
 
 -- what `bench` says of its answer and of the table's later contents, and what `run_file` says of its answer
 abbrev pub BenchSays : List ℕ → List Head → Outcome → List Head → Type 0

@@ -1,24 +1,21 @@
 -- The report's text is document 01's: what is written after nothing, line by line.
-use Prim.Native.Nat.{ℕ, ◌≤◌}
-use mathlib.Core.Path.{◌≡◌, refl, ap, ◌∙◌}
-use mathlib.Core.List.{List, ◌++◌}
-use native.Mathlib.Omega.{arith}
-use mathlib.Core.Bool.{cond}
-use lib.ListN.{length-replicate}
+use Rattle.std.proofs.Common.{◌≡◌, ℕ, zero, suc, ◌≤◌, Bool, cond, List, [], ◌++◌, length, take, refl, sym, subst, ap, ap₂, ◌∙◌, arith}
+use Rattle.std.proofs.lemmas.List.{take_all, get_or-take, length-take-le}
 use lib.Dec.{eqb}
 use borrow.Author.Tests.{eq-eqb, ne_eqb}
+use Rattle.rules.specs.declared.Head.{Head}
+use Rattle.rules.specs.Head.{zero_head}
 use Rattle.file.specs.declared.Outcome.{Outcome}
 use Rattle.file.specs.declared.Benched.{Benched}
-use Rattle.file.specs.declared.Text.{Text}
 use Rattle.file.specs.Figures.{outcome_of}
 use Rattle.file.specs.Benched.{benched_of}
-use Rattle.file.specs.Report.{first_line, head_lines, last_line, refusal_line, report_of, text_of}
-use Rattle.run.specs.Writing.{Held, no_text, with_word}
+use Rattle.file.specs.Report.{first_line, head_line, head_lines, last_line, refusal_line, report_of}
+use Rattle.run.specs.Writing.{with_word}
 use Rattle.run.proofs.Planned.{planned_room}
-use Rattle.run.proofs.Texts.{word_word, word_is_text, report_short}
+use Rattle.run.proofs.Texts.{word_word, report_short}
 
 -- a vote in the table of 32 has at most 32 heads
-pub benched_few : (file : List ℕ) → (benched_of file).outcome.n ≤ 32
+benched_few : (file : List ℕ) → (benched_of file).outcome.n ≤ 32
 unfolding outcome_of
 benched_few file = planned_room file 32
 
@@ -28,37 +25,48 @@ lines_of b =
     let o = b.outcome in
     cond (eqb o.number 0) (first_line o ++ head_lines o.n b.heads ++ last_line o) (refusal_line o)
 
+-- all of a word fits after nothing, if it is short
+with_short : (word : List ℕ) → length word ≤ 4096 → with_word [] word ≡ word
+unfolding with_word
+with_short word short = take_all 4096 word short
+
+-- the heads past those that have a line have no part in the lines
+lines_of_part : (n : ℕ) (heads : List Head) → n ≤ length heads → head_lines (length (take n heads)) (take n heads) ≡ head_lines n heads
+unfolding head_lines
+lines_of_part n heads inside = ap (λ (k : ℕ). head_lines k (take n heads)) (length-take-le n heads inside) ∙ go n (omega arith)
+  where
+    go : (k : ℕ) → k ≤ n → head_lines k (take n heads) ≡ head_lines k heads
+    go zero low = refl
+    go (suc k) low = ap₂ (λ (lines : List ℕ) (h : Head). lines ++ head_line k h) (go k (omega arith)) (get_or-take n heads k zero_head (omega arith))
+
 module _ (file : List ℕ) (done : Benched) (is : done ≡ benched_of file) where
+  abbrev o : Outcome
+  o = done.outcome
+
+  abbrev lines : List ℕ
+  lines = head_lines o.n done.heads
+
+  pub few : o.n ≤ 32
+  few = subst (λ (d : Benched). d.outcome.n ≤ 32) (sym is) (benched_few file)
+
   -- what was written is the report, if it is the report's lines
-  lines_are_report : (text : Text) → text ≡ with_word no_text (lines_of done) → text ≡ text_of (report_of file)
+  lines_are_report : with_word [] (lines_of done) ≡ report_of file
   unfolding report_of
-  lines_are_report text e =
-      e ∙ ap (λ (d : Benched). with_word no_text (lines_of d)) is
-      ∙ word_is_text (report_of file) (report_short file (benched_few file))
+  lines_are_report =
+      ap (λ (d : Benched). with_word [] (lines_of d)) is
+      ∙ with_short (report_of file) (report_short file (benched_few file))
 
-  pub refusal_is_report : (none text : Text) → none ≡ no_text → (done.outcome.number ≡ 0 → ⊥)
-      → text ≡ with_word none (refusal_line done.outcome) → text ≡ text_of (report_of file)
-  refusal_is_report none text a refused e =
-      lines_are_report text (e ∙ ap (λ (t : Text). with_word t (refusal_line done.outcome)) a
-      ∙ rw (ne_eqb done.outcome.number 0 refused) refl)
+  pub refusal_is_report : (o.number ≡ 0 → ⊥) → with_word [] (refusal_line o) ≡ report_of file
+  refusal_is_report refused =
+      ap (λ (t : Bool). with_word [] (cond t (first_line o ++ lines ++ last_line o) (refusal_line o))) (sym (ne_eqb o.number 0 refused))
+      ∙ lines_are_report
 
-  pub lines_report : (none first heads text : Text) → none ≡ no_text → done.outcome.number ≡ 0
-      → first ≡ with_word none (first_line done.outcome)
-      → heads ≡ with_word first (head_lines done.outcome.n done.heads)
-      → text ≡ with_word heads (last_line done.outcome) → text ≡ text_of (report_of file)
-  lines_report none first heads text a accepted x y z =
-      lines_are_report text (chain ∙ rw (eq-eqb done.outcome.number 0 accepted) refl)
-    where
-      o : Outcome
-      o = done.outcome
-
-      none_held : Held no_text
-      none_held = (length-replicate {A = ℕ} 4096 0, omega arith)
-
-      chain : text ≡ with_word no_text (first_line o ++ head_lines o.n done.heads ++ last_line o)
-      chain =
-          z ∙ ap (λ (t : Text). with_word t (last_line o))
-          (y ∙ ap (λ (t : Text). with_word t (head_lines o.n done.heads))
-          (x ∙ ap (λ (t : Text). with_word t (first_line o)) a)
-          ∙ word_word no_text (first_line o) (head_lines o.n done.heads) none_held)
-          ∙ word_word no_text (first_line o ++ head_lines o.n done.heads) (last_line o) none_held
+  pub lines_report : o.number ≡ 0 → length done.heads ≡ 32
+      → with_word (with_word (with_word [] (first_line o)) (head_lines (length (take o.n done.heads)) (take o.n done.heads)))
+      (last_line o) ≡ report_of file
+  lines_report accepted long =
+      rw (lines_of_part o.n done.heads (omega (arith, few, long)))
+      (ap (λ (t : List ℕ). with_word t (last_line o)) (word_word [] (first_line o) lines)
+      ∙ word_word [] (first_line o ++ lines) (last_line o)
+      ∙ ap (λ (t : Bool). with_word [] (cond t (first_line o ++ lines ++ last_line o) (refusal_line o))) (sym (eq-eqb o.number 0 accepted))
+      ∙ lines_are_report)

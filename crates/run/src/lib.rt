@@ -16,3 +16,4 @@ mod text;
 
 pub use printed::report;
 pub use table::{bench, run_file};
+pub use text::Text;

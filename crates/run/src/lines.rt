@@ -1,111 +1,91 @@
 // The lines of a report, each added to a text.
-ghost use Rattle.std.specs.Prelude.{◌≡◌, ◌≤◌, ◌++◌};
-ghost use Rattle.file.specs.Report.{word, value_word, status_word, decision_word};
+ghost use Rattle.std.specs.Prelude.{◌≡◌, length};
+ghost use Rattle.file.specs.Report.{value_word, status_word, decision_word};
 ghost use Rattle.file.specs.Report.{first_line, head_line, head_lines, last_line, refusal_line};
-ghost use Rattle.run.specs.Writing.{Held, with_word};
+ghost use Rattle.run.specs.Writing.{with_word};
 
-use crate::text::{with_figure, with_word};
-use file::{Outcome, Text};
+use crate::text::Text;
+use file::Outcome;
 use rules::{Decision, Head, Status, Value};
 
-pub(crate) fn refusal_line(text: Text, outcome: Outcome) -> Text
-    requires { Held text }
-    ensures value { result ≡ with_word text (refusal_line outcome) }
-    ensures held { Held result }
-{
-    let a = with_figure(text, b"refused ", outcome.number as usize);
-    let b = with_figure(a, b" at ", outcome.place);
-    with_word(b, b"\n")
-}
-
-pub(crate) fn first_line(text: Text, outcome: Outcome) -> Text
-    requires { Held text }
-    ensures value { result ≡ with_word text (first_line outcome) }
-    ensures held { Held result }
-{
-    let a = with_figure(text, b"heads ", outcome.n);
-    let b = with_figure(a, b" need ", outcome.needed);
-    let c = with_figure(b, b" bound ", outcome.bound);
-    with_word(c, b"\n")
-}
-
-pub(crate) fn last_line(text: Text, outcome: Outcome) -> Text
-    requires { Held text }
-    ensures value { result ≡ with_word text (last_line outcome) }
-    ensures held { Held result }
-{
-    let a = with_figure(text, b"rounds ", outcome.rounds);
-    let b = with_figure(a, b" good ", outcome.good);
-    let c = with_figure(b, b" decided ", outcome.decided);
-    with_word(c, b"\n")
-}
-
-// One line for each of the first n heads.
-pub(crate) fn head_lines(text: Text, heads: [Head; 32], n: usize) -> Text
-    requires n_bound { n ≤ 32 }
-    requires held { Held text }
-    ensures value { result ≡ with_word text (head_lines n heads) }
-    ensures held { Held result }
-{
-    let mut lines = text;
-    let mut s = 0;
-    while s < n {
-        let h = heads[s];
-        lines = head_line(lines, s, h);
-        s = s + 1;
+#[tactic(auto, using(crate::proofs::Texts::word_word), unfolding(crate::proofs::Texts::writing))]
+impl Text {
+    pub(crate) fn push_refusal_line(&mut self, outcome: Outcome)
+        ensures { self.new ≡ with_word self.old (refusal_line outcome) }
+    {
+        self.push_figure(b"refused ", outcome.number as usize);
+        self.push_figure(b" at ", outcome.place);
+        self.push(b"\n");
     }
-    lines
+
+    pub(crate) fn push_first_line(&mut self, outcome: Outcome)
+        ensures { self.new ≡ with_word self.old (first_line outcome) }
+    {
+        self.push_figure(b"heads ", outcome.n);
+        self.push_figure(b" need ", outcome.needed);
+        self.push_figure(b" bound ", outcome.bound);
+        self.push(b"\n");
+    }
+
+    pub(crate) fn push_last_line(&mut self, outcome: Outcome)
+        ensures { self.new ≡ with_word self.old (last_line outcome) }
+    {
+        self.push_figure(b"rounds ", outcome.rounds);
+        self.push_figure(b" good ", outcome.good);
+        self.push_figure(b" decided ", outcome.decided);
+        self.push(b"\n");
+    }
+
+    // One line for each head.
+    pub(crate) fn push_head_lines(&mut self, heads: &[Head])
+        ensures { self.new ≡ with_word self.old (head_lines (length heads.now) heads.now) }
+    {
+        for (s, head) in heads.iter().enumerate() {
+            self.push_head_line(s, head);
+        }
+    }
+
+    fn push_head_line(&mut self, s: usize, head: &Head)
+        ensures { self.new ≡ with_word self.old (head_line s head.now) }
+    {
+        self.push_figure(b"head ", s);
+        self.push_figure(b" phase ", head.phase as usize);
+        self.push(b" value ");
+        self.push(value_word(head.value));
+        self.push(b" status ");
+        self.push(status_word(head.status));
+        self.push(b" decision ");
+        self.push(decision_word(head.decision));
+        self.push(b"\n");
+    }
 }
 
-fn head_line(text: Text, s: usize, head: Head) -> Text
-    requires { Held text }
-    ensures value { result ≡ with_word text (head_line s head) }
-    ensures held { Held result }
-{
-    let value = head.value;
-    let status = head.status;
-    let decision = head.decision;
-    let a = with_figure(text, b"head ", s);
-    let b = with_figure(a, b" phase ", head.phase as usize);
-    let c = with_value(b, value);
-    let d = with_status(c, status);
-    let e = with_decision(d, decision);
-    with_word(e, b"\n")
-}
-
-// The word that says what follows and the value's own go in together: each word that a text takes is a
-// copy of the text.
-fn with_value(text: Text, value: Value) -> Text
-    requires { Held text }
-    ensures value { result ≡ with_word text (word " value " ++ value_word value) }
-    ensures held { Held result }
+// Words, and no `Display`: `write!` tells what it has written only on `Ok`, and `report` cannot fail.
+fn value_word(value: Value) -> &'static [u8]
+    ensures { result.now ≡ value_word value }
 {
     match value {
-        Value::Zero => with_word(text, b" value 0"),
-        Value::One => with_word(text, b" value 1"),
-        Value::Blank => with_word(text, b" value blank"),
+        Value::Zero => b"0",
+        Value::One => b"1",
+        Value::Blank => b"blank",
     }
 }
 
-fn with_status(text: Text, status: Status) -> Text
-    requires { Held text }
-    ensures value { result ≡ with_word text (word " status " ++ status_word status) }
-    ensures held { Held result }
+fn status_word(status: Status) -> &'static [u8]
+    ensures { result.now ≡ status_word status }
 {
     match status {
-        Status::Undecided => with_word(text, b" status undecided"),
-        Status::Decided => with_word(text, b" status decided"),
+        Status::Undecided => b"undecided",
+        Status::Decided => b"decided",
     }
 }
 
-fn with_decision(text: Text, decision: Decision) -> Text
-    requires { Held text }
-    ensures value { result ≡ with_word text (word " decision " ++ decision_word decision) }
-    ensures held { Held result }
+fn decision_word(decision: Decision) -> &'static [u8]
+    ensures { result.now ≡ decision_word decision }
 {
     match decision {
-        Decision::Zero => with_word(text, b" decision 0"),
-        Decision::One => with_word(text, b" decision 1"),
-        Decision::Unwritten => with_word(text, b" decision none"),
+        Decision::Zero => b"0",
+        Decision::One => b"1",
+        Decision::Unwritten => b"none",
     }
 }

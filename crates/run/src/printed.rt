@@ -1,25 +1,25 @@
 // The report's text: every byte that the program prints.
 ghost use Rattle.std.specs.Prelude.{◌≡◌};
-ghost use Rattle.file.specs.Report.{report_of, text_of};
+ghost use Rattle.file.specs.Report.{report_of};
 
-use crate::lines::{first_line, head_lines, last_line, refusal_line};
 use crate::table::run_file;
-use crate::text::empty;
-use file::Text;
+use crate::text::Text;
 
 // What the program prints for a run file.
 pub fn report(file: &[u8]) -> Text
-    ensures { result ≡ text_of (report_of file.now) }
+    ensures { result ≡ report_of file.now }
 {
     let done = run_file(file);
     let outcome = done.outcome;
-    let text = empty();
-    if outcome.number != 0 {
-        return refusal_line(text, outcome);
+    let refused = outcome.number != 0;
+    let mut text = Text::new();
+    if refused {
+        text.push_refusal_line(outcome);
+        return text;
     }
-    let heads = done.heads;
-    last_line(
-        head_lines(first_line(text, outcome), heads, outcome.n),
-        outcome,
-    )
+    text.push_first_line(outcome);
+    let heads = &done.heads[..outcome.n];
+    text.push_head_lines(heads);
+    text.push_last_line(outcome);
+    text
 }

@@ -1,57 +1,78 @@
-// A text by value that grows at its end. What goes beyond 4,096 bytes is left out; no report does.
-ghost use Rattle.std.specs.Prelude.{◌≡◌, ◌++◌};
+// The text of a report: bytes that grow at their end. What goes beyond 4,096 is left out; no report does.
+ghost use Rattle.std.specs.Prelude.{◌≡◌, [], ◌++◌};
 ghost use Rattle.file.specs.Report.{decimal};
-ghost use Rattle.run.specs.Writing.{Held, no_text, with_word};
+ghost use Rattle.run.specs.Writing.{with_word};
 
-use crate::places::least;
-use file::Text;
+use std::marker::Model;
 
-pub(crate) fn empty() -> Text
-    ensures value { result ≡ no_text }
-    ensures held { Held result }
-{
-    let none = [0; 4096];
-    Text {
-        bytes: none,
-        length: 0,
+const BYTES_MOST: usize = 4096;
+
+// An array, for there is no heap and `report` cannot fail; not `ArrayVec`: `a_text_is_filled_with_zeros`.
+#[derive(Drop)]
+pub struct Text {
+    bytes: [u8; BYTES_MOST],
+    length: usize,
+}
+
+// A clause sees the text's bytes alone. What stands past them is zero, so they say what the fields are.
+impl Model for Text {
+    ghost use Rattle.std.specs.Prelude.{◌≡◌, ℕ, ◌≤◌, List, take};
+    ghost use Rattle.std.proofs.Common.{sym};
+
+    ghost Value = { List ℕ };
+
+    ghost use Rattle.run.specs.Text.{text_of};
+
+    ghost view = { λ t. take t.length t.bytes };
+
+    ghost invariant = { λ t. (t.length ≤ 4096) × (t ≡ text_of (take t.length t.bytes)) };
+
+    ghost inverse = { text_of };
+
+    ghost inverse_ok = { λ t h. sym h.1 };
+}
+
+impl Text {
+    pub fn as_bytes(&self) -> &[u8]
+        ensures { result.now ≡ self.now }
+    {
+        &self.bytes[..self.length]
     }
-}
 
-// A word, and a number after it.
-pub(crate) fn with_figure(text: Text, word: &[u8], number: usize) -> Text
-    requires { Held text }
-    ensures value { result ≡ with_word text (word.now ++ decimal number) }
-    ensures held { Held result }
-{
-    with_number(with_word(text, word), number)
-}
-
-// The number's decimal digits, and no fewer than one.
-fn with_number(text: Text, number: usize) -> Text
-    requires { Held text }
-    ensures value { result ≡ with_word text (decimal number) }
-    ensures held { Held result }
-{
-    let mut digits = [0u8; 20];
-    let k = io::decimal(number as u64, &mut digits);
-    with_word(text, &digits[..k])
-}
-
-pub(crate) fn with_word(text: Text, word: &[u8]) -> Text
-    requires { Held text }
-    ensures value { result ≡ with_word text word.now }
-    ensures held { Held result }
-{
-    let at = text.length;
-    let count = least(word.len(), 4096 - at);
-    let mut bytes = text.bytes;
-    let mut i: usize = 0;
-    while i < count {
-        bytes[at + i] = word[i];
-        i += 1;
+    pub(crate) fn new() -> Self
+        ensures { result ≡ [] }
+    {
+        Text {
+            bytes: [0; BYTES_MOST],
+            length: 0,
+        }
     }
-    Text {
-        bytes: bytes,
-        length: at + count,
+
+    pub(crate) fn push(&mut self, word: &[u8])
+        ensures { self.new ≡ with_word self.old word.now }
+    {
+        let start = self.length;
+        let count = word.len().min(BYTES_MOST - start);
+        self.bytes[start..start + count].copy_from_slice(&word[..count]);
+        self.length = start + count;
+    }
+
+    // A word, and a number after it.
+    #[tactic(auto, using(crate::proofs::Texts::word_word))]
+    pub(crate) fn push_figure(&mut self, word: &[u8], number: usize)
+        ensures { self.new ≡ with_word self.old (word.now ++ decimal number) }
+    {
+        self.push(word);
+        self.push_number(number);
+    }
+
+    // The number's decimal digits, and no fewer than one.
+    #[tactic(auto, using(crate::proofs::Texts::digits_are))]
+    fn push_number(&mut self, number: usize)
+        ensures { self.new ≡ with_word self.old (decimal number) }
+    {
+        let mut digits = [0; 20];
+        let count = io::decimal(number as u64, &mut digits);
+        self.push(&digits[..count]);
     }
 }
