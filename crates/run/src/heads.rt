@@ -8,7 +8,7 @@ ghost use Rattle.run.specs.Received.{received_from};
 
 use codes::{BALLOT_BYTES, HEADS_MOST, ballot_bytes};
 use engine::{own_ballot, tick};
-use rules::Head;
+use rules::{Head, Refused};
 
 // The heads' ballots in number order, with room for as many heads as there can be.
 pub(crate) fn ballots_of(heads: &[Head]) -> [[u8; BALLOT_BYTES]; HEADS_MOST as usize]
@@ -34,5 +34,7 @@ pub(crate) fn ticked(head: Head, sent: &[[u8; BALLOT_BYTES]], lost: u32, coin: u
         received[count] = *ballot;
         count += usize::from((lost >> sender) % 2 == 0);
     }
-    tick(head, received[..count].as_flattened(), u32::from(coin)).head
+    match tick(head, received[..count].as_flattened(), u32::from(coin)) {
+        Ok(head) | Err(Refused { head, .. }) => head,
+    }
 }

@@ -50,7 +50,7 @@ fn start_all(heads: &mut [Head], proposals: &[u8])
 {
     let n = heads.len() as u32;
     for (i, head) in heads.iter_mut().enumerate() {
-        *head = start(n, i as u32, u32::from(byte_at(proposals, i))).head;
+        *head = start(n, i as u32, u32::from(byte_at(proposals, i))).unwrap_or(zero_head());
     }
 }
 
