@@ -1,6 +1,4 @@
 pub mod Sections
-pub mod Plans
 pub mod Survey
-pub mod Small
 pub mod Writing
 pub mod Figures

@@ -1,24 +1,21 @@
 // The figures of a run: the bound, the good rounds, and the answer with them.
 ghost use Rattle.std.specs.Prelude.{◌≡◌, ◌*◌, ◌≤◌};
 ghost use Rattle.rules.specs.Sizes.{heads_most};
-ghost use Rattle.file.specs.Figures.{lost_in, bound_of, good_in};
+ghost use Rattle.file.specs.Plan.{accepted};
+ghost use Rattle.file.specs.Figures.{figured, lost_in, bound_of, good_in};
 ghost use Rattle.run.specs.Figures.{outcome_in};
-ghost use Rattle.run.specs.Small.{Small};
 
 use crate::heads::Survey;
 use crate::plans::rows_of;
 use crate::sections::row_at;
 use codes::{SET_BYTES, size};
-use file::{Outcome, Plan};
+use file::{Figures, Plan};
 
-pub(crate) fn outcome(file: &[u8], plan: Plan, last: Survey) -> Outcome
-    requires { Small plan }
-    ensures { result ≡ outcome_in file.now plan last.decided }
+pub(crate) fn outcome(file: &[u8], plan: Plan, last: Survey) -> Figures
+    ensures { figured result ≡ outcome_in file.now (accepted plan) last.decided }
 {
     let most = bound(plan.n, plan.needed);
-    Outcome {
-        number: plan.number,
-        place: plan.place,
+    Figures {
         n: plan.n,
         needed: plan.needed,
         bound: most,
@@ -30,9 +27,8 @@ pub(crate) fn outcome(file: &[u8], plan: Plan, last: Survey) -> Outcome
 
 // "A round is good if its lost ballots, of n × n, are at most" the bound.
 fn good(file: &[u8], plan: Plan, most: usize) -> usize
-    requires small { Small plan }
-    requires most_is_bound { most ≡ bound_of plan.n plan.needed }
-    ensures { result ≡ good_in file.now plan plan.rounds }
+    requires { most ≡ bound_of plan.n plan.needed }
+    ensures { result ≡ good_in file.now (accepted plan) plan.rounds }
 {
     let n = plan.n;
     let rounds = plan.rounds;

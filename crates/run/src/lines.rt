@@ -1,42 +1,43 @@
 // The lines of a report, each added to a text.
-ghost use Rattle.std.specs.Prelude.{◌≡◌, ◌≤◌, ◌++◌};
+ghost use Rattle.std.specs.Prelude.{◌≡◌, ◌≤◌, ◌++◌, Ok, Err};
 ghost use Rattle.file.specs.Report.{word, value_word, status_word, decision_word};
+ghost use Rattle.file.specs.Figures.{outcome_read};
 ghost use Rattle.file.specs.Report.{first_line, head_line, head_lines, last_line, refusal_line};
 ghost use Rattle.run.specs.Writing.{Held, with_word};
 
 use crate::text::{with_figure, with_word};
-use file::{Outcome, Text};
+use file::{Figures, Refusal, Text};
 use rules::{Decision, Head, Status, Value};
 
-pub(crate) fn refusal_line(text: Text, outcome: Outcome) -> Text
+pub(crate) fn refusal_line(text: Text, refusal: Refusal) -> Text
     requires { Held text }
-    ensures value { result ≡ with_word text (refusal_line outcome) }
+    ensures value { result ≡ with_word text (refusal_line (outcome_read (Err refusal))) }
     ensures held { Held result }
 {
-    let a = with_figure(text, b"refused ", outcome.number as usize);
-    let b = with_figure(a, b" at ", outcome.place);
+    let a = with_figure(text, b"refused ", refusal.number() as usize);
+    let b = with_figure(a, b" at ", refusal.place);
     with_word(b, b"\n")
 }
 
-pub(crate) fn first_line(text: Text, outcome: Outcome) -> Text
+pub(crate) fn first_line(text: Text, figures: Figures) -> Text
     requires { Held text }
-    ensures value { result ≡ with_word text (first_line outcome) }
+    ensures value { result ≡ with_word text (first_line (outcome_read (Ok figures))) }
     ensures held { Held result }
 {
-    let a = with_figure(text, b"heads ", outcome.n);
-    let b = with_figure(a, b" need ", outcome.needed);
-    let c = with_figure(b, b" bound ", outcome.bound);
+    let a = with_figure(text, b"heads ", figures.n);
+    let b = with_figure(a, b" need ", figures.needed);
+    let c = with_figure(b, b" bound ", figures.bound);
     with_word(c, b"\n")
 }
 
-pub(crate) fn last_line(text: Text, outcome: Outcome) -> Text
+pub(crate) fn last_line(text: Text, figures: Figures) -> Text
     requires { Held text }
-    ensures value { result ≡ with_word text (last_line outcome) }
+    ensures value { result ≡ with_word text (last_line (outcome_read (Ok figures))) }
     ensures held { Held result }
 {
-    let a = with_figure(text, b"rounds ", outcome.rounds);
-    let b = with_figure(a, b" good ", outcome.good);
-    let c = with_figure(b, b" decided ", outcome.decided);
+    let a = with_figure(text, b"rounds ", figures.rounds);
+    let b = with_figure(a, b" good ", figures.good);
+    let c = with_figure(b, b" decided ", figures.decided);
     with_word(c, b"\n")
 }
 

@@ -12,14 +12,15 @@ pub fn report(file: &[u8]) -> Text
     ensures { result ≡ text_of (report_of file.now) }
 {
     let done = run_file(file);
-    let outcome = done.outcome;
     let text = empty();
-    if outcome.number != 0 {
-        return refusal_line(text, outcome);
+    match done.outcome {
+        Err(refusal) => refusal_line(text, refusal),
+        Ok(figures) => {
+            let heads = done.heads;
+            last_line(
+                head_lines(first_line(text, figures), heads, figures.n),
+                figures,
+            )
+        }
     }
-    let heads = done.heads;
-    last_line(
-        head_lines(first_line(text, outcome), heads, outcome.n),
-        outcome,
-    )
 }

@@ -3,35 +3,35 @@
 ghost use Rattle.std.specs.Prelude.{◌≡◌, ◌≤◌, length};
 ghost use Rattle.rules.specs.Sizes.{heads_most};
 ghost use Rattle.file.specs.Table.{starts_in, round_in, rounds_in, table_after};
-ghost use Rattle.file.specs.Figures.{outcome_of};
-ghost use Rattle.file.specs.Benched.{benched_of};
+ghost use Rattle.file.specs.Plan.{accepted};
+ghost use Rattle.file.specs.Figures.{outcome_of, outcome_read};
+ghost use Rattle.file.specs.Benched.{benched_of, benched_read};
 ghost use Rattle.run.specs.Survey.{survey_of};
-ghost use Rattle.run.specs.Small.{Small};
 
 use crate::figures::outcome;
 use crate::heads::{Survey, no_survey, note, started, ticked};
 use crate::plans::{coins_of, plan_of, rows_of};
 use codes::{HEADS_MOST, zero_head};
-use file::{Benched, Outcome, Plan};
+use file::{Benched, Figures, Plan, Refusal};
 use rules::Head;
 
 // "The bench works in a lent table of heads, n or more; after a run the first n are the heads and
 // the others are untouched. Refused: nothing in the table changes."
-pub fn bench(file: &[u8], table: &mut [Head]) -> Outcome
-    ensures value { result ≡ outcome_of file.now table.old }
+pub fn bench(file: &[u8], table: &mut [Head]) -> Result<Figures, Refusal>
+    ensures value { outcome_read result ≡ outcome_of file.now table.old }
     ensures table_after { table.new ≡ table_after file.now table.old }
 {
-    let plan = plan_of(file, table.len());
+    let plan = plan_of(file, table.len())?;
     let n = plan.n;
     start_all(table, file, n);
     run_rounds(table, file, plan);
     let last = survey(table, n);
-    outcome(file, plan, last)
+    Ok(outcome(file, plan, last))
 }
 
 // The same in a table of 32 that is made here and given back: whoever calls this lends nothing.
 pub fn run_file(file: &[u8]) -> Benched
-    ensures { result ≡ benched_of file.now }
+    ensures { benched_read result ≡ benched_of file.now }
 {
     let h = zero_head();
     let mut table = [h; HEADS_MOST as usize];
@@ -56,9 +56,8 @@ fn start_all(table: &mut [Head], file: &[u8], n: usize)
 }
 
 fn run_rounds(table: &mut [Head], file: &[u8], plan: Plan)
-    requires n_in_bounds { plan.n ≤ length table.old }
-    requires small { Small plan }
-    ensures { table.new ≡ rounds_in file.now plan plan.rounds table.old }
+    requires { plan.n ≤ length table.old }
+    ensures { table.new ≡ rounds_in file.now (accepted plan) plan.rounds table.old }
 {
     let n = plan.n;
     let rounds = plan.rounds;

@@ -1,6 +1,6 @@
 use Rattle.std.proofs.Common.{◌≡◌, ◌+◌, ℕ, List, refl, add-one, arith}
 use Rattle.rules.specs.declared.Head.{Head}
-use Rattle.file.specs.declared.Plan.{Plan}
+use Rattle.file.specs.Plan.{Plan}
 use Rattle.file.specs.Table.{rows_in, coins_in, round_in, rounds_in}
 use Rattle.run.proofs.table.run_rounds.Goals as goal
 
