@@ -61,8 +61,8 @@ abbrev pub Accepts : List ℕ → List Head → Type 0
 Accepts file table = (outcome_of file table).number ≡ 0
 
 -- what the bench's answer stands for: the figures of an accepted file
-abbrev pub figured : Figures → Outcome
-figured figures =
+abbrev pub accepted_outcome : Figures → Outcome
+accepted_outcome figures =
     record {
       number = 0;
       place = 0;
@@ -80,5 +80,5 @@ refused_outcome number place =
     record { number = number; place = place; n = 0; needed = 0; bound = 0; rounds = 0; good = 0; decided = 0 }
 
 abbrev pub outcome_read : Result Figures Refusal → Outcome
-outcome_read (Ok figures) = figured figures
+outcome_read (Ok figures) = accepted_outcome figures
 outcome_read (Err refusal) = refused_outcome (number_of refusal.fault) refusal.place

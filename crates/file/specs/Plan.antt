@@ -51,8 +51,8 @@ abbrev pub plan_for : List ℕ → List Head → Plan
 plan_for file table = plan_of file (length table)
 
 -- what the code's answer stands for: the plan of an accepted file
-abbrev pub accepted : Said → Plan
-accepted said =
+abbrev pub accepted_plan : Said → Plan
+accepted_plan said =
     record {
       number = 0;
       place = 0;
@@ -65,5 +65,5 @@ accepted said =
 
 -- or a refusal
 abbrev pub plan_read : Result Said Refusal → Plan
-plan_read (Ok said) = accepted said
+plan_read (Ok said) = accepted_plan said
 plan_read (Err refusal) = refused_plan (number_of refusal.fault) refusal.place

@@ -51,8 +51,8 @@ pub struct Body {
 
 impl Body {
     // Where the next section's count stands.
-    pub fn end(self) -> usize
-        ensures { result ≡ self.start + self.length }
+    pub fn end(&self) -> usize
+        ensures { result ≡ self.now.start + self.now.length }
     {
         self.start + self.length
     }

@@ -11,16 +11,16 @@ use Rattle.file.specs.Section.{Body, Refused, section_at, not_bit}
 use Rattle.run.proofs.Parts.{byte_of_part}
 
 -- what is known of an item that is there
-pub known : {A R : Type 0} (o : Option A) (P Q : A → Type 0) → IfSome o P → IsSomeAnd o Q → ((x : A) → P x → Q x → R) → R
-known None P Q p q f = absurd q
-known (Some x) P Q p q f = f x p q
+pub known : {A R : Type 0} {P Q : A → Type 0} (o : Option A) → IfSome o P → IsSomeAnd o Q → ((x : A) → P x → Q x → R) → R
+known None p q f = absurd q
+known (Some x) p q f = f x p q
 
 -- an item that is read off a list is there
-pub there : {A : Type 0} (o : Option A) (items : List A) (k : ℕ) (Q : A → Type 0)
+pub there : {A : Type 0} (Q : A → Type 0) (o : Option A) (items : List A) (k : ℕ)
     → ((d : A) → option_map (λ y. y) o ≡ Some (slice_index_or items k d)) → k < length items → IfSome o Q → IsSomeAnd o Q
-there None [] k Q reads h q = absurd (omega arith)
-there None (x ∷ items) k Q reads h q = search (arith, reads x)
-there (Some x) items k Q reads h q = q
+there Q None [] k reads h q = absurd (omega arith)
+there Q None (x ∷ items) k reads h q = search (arith, reads x)
+there Q (Some x) items k reads h q = q
 
 module _ (file body : List ℕ) (at size width : ℕ) (test : List ℕ → ℕ → Bool) (inside : at + 2 + size ≤ length file)
     (is : body ≡ take size (drop (at + 2) file)) where

@@ -13,7 +13,7 @@ use Rattle.file.specs.declared.Refusal.{Refusal}
 use Rattle.file.specs.declared.Figures.{Figures}
 use Rattle.file.specs.declared.Benched.{Benched as Answered}
 use Rattle.file.specs.Fault.{number_of}
-use Rattle.file.specs.Figures.{figured, outcome_of, outcome_read}
+use Rattle.file.specs.Figures.{accepted_outcome, outcome_of, outcome_read}
 use Rattle.file.specs.Benched.{Benched, benched_of, benched_read}
 use Rattle.file.specs.Report.{first_line, head_lines, last_line, refusal_line, report_of, text_of}
 use Rattle.file.proofs.OneAnswer.{never_0}
@@ -68,10 +68,10 @@ module _ (file : List ℕ) (done : Answered) (is : benched_read done ≡ benched
         none_held : Held no_text
         none_held = (length-replicate {A = ℕ} 4096 0, omega arith)
 
-        chain : text ≡ with_word no_text (first_line (figured figures) ++ head_lines figures.n done.heads ++ last_line (figured figures))
+        chain : text ≡ with_word no_text (first_line (accepted_outcome figures) ++ head_lines figures.n done.heads ++ last_line (accepted_outcome figures))
         chain =
-            z ∙ ap (λ (t : Text). with_word t (last_line (figured figures)))
+            z ∙ ap (λ (t : Text). with_word t (last_line (accepted_outcome figures)))
             (y ∙ ap (λ (t : Text). with_word t (head_lines figures.n done.heads))
-            (x ∙ ap (λ (t : Text). with_word t (first_line (figured figures))) a)
-            ∙ word_word no_text (first_line (figured figures)) (head_lines figures.n done.heads) none_held)
-            ∙ word_word no_text (first_line (figured figures) ++ head_lines figures.n done.heads) (last_line (figured figures)) none_held
+            (x ∙ ap (λ (t : Text). with_word t (first_line (accepted_outcome figures))) a)
+            ∙ word_word no_text (first_line (accepted_outcome figures)) (head_lines figures.n done.heads) none_held)
+            ∙ word_word no_text (first_line (accepted_outcome figures) ++ head_lines figures.n done.heads) (last_line (accepted_outcome figures)) none_held

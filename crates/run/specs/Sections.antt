@@ -1,14 +1,9 @@
 -- What the section readers hand to one another.
-use Rattle.std.specs.Prelude.{ℕ, ◌+◌, ◌*◌, ◌≤◌, ◌≡◌, List, Bool, length, take, drop}
-use Rattle.rules.specs.Sizes.{heads_most}
+use Rattle.std.specs.Prelude.{ℕ, ◌+◌, ◌≤◌, ◌≡◌, List, Bool, length, take, drop}
 
 -- a row of lost ballots: "4 bytes"
 abbrev pub set_bytes : ℕ
 set_bytes = 4
-
--- how far back a row can stand among the rows of a file: as many as a count can announce, of 4 bytes, for 32 heads
-abbrev pub body_most : ℕ
-body_most = 65535 * heads_most * set_bytes
 
 -- what is answered of a piece of so many bytes is what a test says of the place where it stands in a body
 abbrev pub Tests : ℕ → (List ℕ → Bool → Type 0) → (List ℕ → ℕ → Bool) → Type 0

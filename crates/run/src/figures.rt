@@ -1,8 +1,8 @@
 // The figures of a run: the bound, the good rounds, and the answer with them.
 ghost use Rattle.std.specs.Prelude.{◌≡◌, ◌*◌, ◌≤◌};
 ghost use Rattle.rules.specs.Sizes.{heads_most};
-ghost use Rattle.file.specs.Plan.{accepted};
-ghost use Rattle.file.specs.Figures.{figured, lost_in, bound_of, good_in};
+ghost use Rattle.file.specs.Plan.{accepted_plan};
+ghost use Rattle.file.specs.Figures.{accepted_outcome, lost_in, bound_of, good_in};
 ghost use Rattle.run.specs.Figures.{outcome_in};
 
 use crate::heads::Survey;
@@ -12,7 +12,7 @@ use codes::{SET_BYTES, size};
 use file::{Figures, Plan};
 
 pub(crate) fn outcome(file: &[u8], plan: Plan, last: Survey) -> Figures
-    ensures { figured result ≡ outcome_in file.now (accepted plan) last.decided }
+    ensures { accepted_outcome result ≡ outcome_in file.now (accepted_plan plan) last.decided }
 {
     let most = bound(plan.n, plan.needed);
     Figures {
@@ -28,7 +28,7 @@ pub(crate) fn outcome(file: &[u8], plan: Plan, last: Survey) -> Figures
 // "A round is good if its lost ballots, of n × n, are at most" the bound.
 fn good(file: &[u8], plan: Plan, most: usize) -> usize
     requires { most ≡ bound_of plan.n plan.needed }
-    ensures { result ≡ good_in file.now (accepted plan) plan.rounds }
+    ensures { result ≡ good_in file.now (accepted_plan plan) plan.rounds }
 {
     let n = plan.n;
     let rounds = plan.rounds;

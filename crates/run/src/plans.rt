@@ -1,6 +1,6 @@
 // A whole run file: its sections one after the other.
 ghost use Rattle.std.specs.Prelude.{◌≡◌, ◌<◌};
-ghost use Rattle.file.specs.Plan.{accepted, plan_read, plan_of};
+ghost use Rattle.file.specs.Plan.{accepted_plan, plan_read, plan_of};
 ghost use Rattle.file.specs.Table.{rows_in, coins_in};
 
 use crate::places::{byte_at, part};
@@ -44,7 +44,7 @@ pub(crate) fn plan_of(file: &[u8], room: usize) -> Result<Plan, Refusal>
 // "the loss rows of one round are a part from the middle of the file": of section 3's part.
 pub(crate) fn rows_of(file: &[u8], plan: Plan, r: usize) -> &[u8]
     requires { r < plan.rounds }
-    ensures { result.now ≡ rows_in file.now (accepted plan) r }
+    ensures { result.now ≡ rows_in file.now (accepted_plan plan) r }
 {
     let n = plan.n;
     let rounds = plan.rounds;
@@ -55,7 +55,7 @@ pub(crate) fn rows_of(file: &[u8], plan: Plan, r: usize) -> &[u8]
 // The coins of one round: a part of section 4's.
 pub(crate) fn coins_of(file: &[u8], plan: Plan, r: usize) -> &[u8]
     requires { r < plan.rounds }
-    ensures { result.now ≡ coins_in file.now (accepted plan) r }
+    ensures { result.now ≡ coins_in file.now (accepted_plan plan) r }
 {
     let n = plan.n;
     let rounds = plan.rounds;

@@ -7,10 +7,10 @@ ghost use Rattle.rules.specs.Record.{four_bytes_at};
 ghost use Rattle.file.specs.Section.{count_at, section_at, section_read};
 ghost use Rattle.file.specs.Section.{not_bit, not_need, not_row};
 ghost use Rattle.file.specs.Section.{proposals_of, needed_of, losses_of, coins_of};
-ghost use Rattle.run.specs.Sections.{body_most, Tests};
+ghost use Rattle.run.specs.Sections.{Tests};
 
 use crate::places::{byte_at, part};
-use codes::{SET_BYTES, four_bytes_of, not_heads, within};
+use codes::{SET_BYTES, not_heads, within};
 use file::{Body, Fault, Refusal};
 
 // "a two-byte count"
@@ -79,21 +79,21 @@ pub(crate) fn coins(file: &[u8], at: usize, count: usize) -> Result<Body, Refusa
 pub(crate) fn count_at(file: &[u8], place: usize) -> u16
     ensures { result ≡ count_at file.now place }
 {
-    let low = byte_at(file, place.saturating_add(1));
-    byte_at(file, place) as u16 * 256 + low as u16
+    let count = part(file, place, COUNT_BYTES);
+    u16::from_be_bytes([byte_at(count, 0), byte_at(count, 1)])
 }
 
 // "rows of 4 bytes, high byte first"
 pub(crate) fn row_at(rows: &[u8], place: usize) -> u32
-    requires { place ≤ body_most }
     ensures { result ≡ four_bytes_at rows.now place }
 {
-    four_bytes_of(
-        byte_at(rows, place),
-        byte_at(rows, place + 1),
-        byte_at(rows, place + 2),
-        byte_at(rows, place + 3),
-    )
+    let row = part(rows, place, SET_BYTES);
+    u32::from_be_bytes([
+        byte_at(row, 0),
+        byte_at(row, 1),
+        byte_at(row, 2),
+        byte_at(row, 3),
+    ])
 }
 
 // The section whose count stands at a place, with a body of so many bytes, in pieces of so many.
@@ -110,30 +110,34 @@ fn section<F: Fn(&[u8]) -> bool>(
     ensures { (test : List ℕ → ℕ → Bool) → Tests width (FnReturnsAt F.Fn breaks) test
         → section_read result ≡ section_at file.now at count_breaks size width test }
 {
-    let fault = Fault::EndsInsideCountOrBody;
-    let end = file.len();
     let start = at.saturating_add(COUNT_BYTES);
-    if end < start {
-        return Err(Refusal { fault, place: end });
+    let ends = Refusal {
+        fault: Fault::EndsInsideCountOrBody,
+        place: file.len(),
+    };
+    if file.len() < start {
+        return Err(ends);
     }
     if count_breaks {
-        let fault = Fault::CountBreaksItsRule;
-        return Err(Refusal { fault, place: at });
+        return Err(Refusal {
+            fault: Fault::CountBreaksItsRule,
+            place: at,
+        });
     }
-    if end - start < size {
-        return Err(Refusal { fault, place: end });
+    if file.len() - start < size {
+        return Err(ends);
     }
     let body = part(file, start, size);
-    let broken = body.chunks_exact(width).position(|piece| breaks(piece));
-    let Some(i) = broken else {
-        return Ok(Body {
+    match body.chunks_exact(width).position(|piece| breaks(piece)) {
+        Some(i) => Err(Refusal {
+            fault: Fault::BytesBreakTheirRule,
+            place: start + i * width,
+        }),
+        None => Ok(Body {
             start,
             length: size,
-        });
-    };
-    let fault = Fault::BytesBreakTheirRule;
-    let place = start + i * width;
-    Err(Refusal { fault, place })
+        }),
+    }
 }
 
 // A proposal or a coin that is not "0 or 1".

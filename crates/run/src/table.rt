@@ -3,7 +3,7 @@
 ghost use Rattle.std.specs.Prelude.{◌≡◌, ◌≤◌, length};
 ghost use Rattle.rules.specs.Sizes.{heads_most};
 ghost use Rattle.file.specs.Table.{starts_in, round_in, rounds_in, table_after};
-ghost use Rattle.file.specs.Plan.{accepted};
+ghost use Rattle.file.specs.Plan.{accepted_plan};
 ghost use Rattle.file.specs.Figures.{outcome_of, outcome_read};
 ghost use Rattle.file.specs.Benched.{benched_of, benched_read};
 ghost use Rattle.run.specs.Survey.{survey_of};
@@ -57,7 +57,7 @@ fn start_all(table: &mut [Head], file: &[u8], n: usize)
 
 fn run_rounds(table: &mut [Head], file: &[u8], plan: Plan)
     requires { plan.n ≤ length table.old }
-    ensures { table.new ≡ rounds_in file.now (accepted plan) plan.rounds table.old }
+    ensures { table.new ≡ rounds_in file.now (accepted_plan plan) plan.rounds table.old }
 {
     let n = plan.n;
     let rounds = plan.rounds;

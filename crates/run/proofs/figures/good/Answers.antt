@@ -2,7 +2,7 @@ use Rattle.std.proofs.Common.{◌≡◌, ℕ, suc, ◌+◌, ◌≤◌, Bool, tru
 use lib.Dec.{leb}
 use mir.Val.{bool_byte}
 use Rattle.rules.specs.Below.{count}
-use Rattle.file.specs.Plan.{Plan, accepted}
+use Rattle.file.specs.Plan.{Plan, accepted_plan}
 use Rattle.file.specs.Table.{rows_in}
 use Rattle.file.specs.Figures.{lost_in, bound_of, good_in}
 use Rattle.run.proofs.figures.good.Goals as goal
@@ -32,7 +32,7 @@ loop-r-preserved c =
     let e = c.loop-r.invariant in
     let plan = c.args.plan in (
       omega arith,
-      good_more c.args.file.now (accepted plan) _ _ _ _ e.1
+      good_more c.args.file.now (accepted_plan plan) _ _ _ _ e.1
           (c.lost_in-lost.ensures ∙ ap (λ (rows : List ℕ). lost_in rows plan.n) c.rows_of.ensures)
           c.requires,
       omega (arith, byte_small (leb c.lost_in-lost.result c.args.most)),
