@@ -46,10 +46,8 @@ pub(crate) fn rows_of(file: &[u8], plan: Plan, r: usize) -> &[u8]
     requires { r < plan.rounds }
     ensures { result.now ≡ rows_in file.now (accepted_plan plan) r }
 {
-    let n = plan.n;
-    let rounds = plan.rounds;
-    let losses = part(file, plan.losses, rounds * n * SET_BYTES);
-    part(losses, r * n * SET_BYTES, n * SET_BYTES)
+    let losses = part(file, plan.losses, plan.rounds * plan.n * SET_BYTES);
+    part(losses, r * plan.n * SET_BYTES, plan.n * SET_BYTES)
 }
 
 // The coins of one round: a part of section 4's.
@@ -57,8 +55,6 @@ pub(crate) fn coins_of(file: &[u8], plan: Plan, r: usize) -> &[u8]
     requires { r < plan.rounds }
     ensures { result.now ≡ coins_in file.now (accepted_plan plan) r }
 {
-    let n = plan.n;
-    let rounds = plan.rounds;
-    let coins = part(file, plan.coins, rounds * n);
-    part(coins, r * n, n)
+    let coins = part(file, plan.coins, plan.rounds * plan.n);
+    part(coins, r * plan.n, plan.n)
 }
