@@ -7,9 +7,8 @@ use mathlib.Core.Path.{◌≡◌, refl}
 use mathlib.Core.List.{List, [], ◌∷◌, ◌++◌, map}
 use lib.ListN.{replicate}
 use Rattle.rules.specs.Head.{zero_head}
-use Rattle.file.specs.declared.Outcome.{Outcome}
+use Rattle.file.specs.Figures.{Outcome, outcome_of}
 use Rattle.file.specs.Section.{body_of, proposals_of, needed_of, losses_of, coins_of}
-use Rattle.file.specs.Figures.{outcome_of}
 use Rattle.file.specs.Benched.{benched_of}
 use Rattle.file.specs.Report.{word, report_of}
 use Rattle.file.proofs.Computing.{reporting}

@@ -4,6 +4,7 @@ pub mod AFewReports
 pub mod PrintedCase
 pub mod Reading
 pub mod Running
+pub mod OneAnswer
 pub mod Printing
 pub mod TheBench
 pub mod TheBenchApplied

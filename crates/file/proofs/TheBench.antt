@@ -17,10 +17,9 @@ use Rattle.rules.specs.Tick.{tick_number}
 use Rattle.rules.specs.Record.{four_bytes_at}
 use Rattle.rules.specs.Given.{WrittenDecision, Given}
 use Rattle.rules.specs.Run.{head_in, Run}
-use Rattle.file.specs.declared.Plan.{Plan}
+use Rattle.file.specs.Plan.{Plan, plan_for}
 use Rattle.file.specs.Rules.{KeepsEveryRule}
 use Rattle.file.specs.Refusal.{file_refusals}
-use Rattle.file.specs.Plan.{plan_for}
 use Rattle.file.specs.Table.{head_of, starts_in, rows_in, coins_in, rounds_in, table_after}
 use Rattle.file.specs.Vote.{vote_for, channel_for, events_for, lost_to}
 use Rattle.file.specs.Figures.{lost_in, bound_of, outcome_of, Accepts}

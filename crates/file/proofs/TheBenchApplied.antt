@@ -24,15 +24,13 @@ use Rattle.rules.proofs.Counting.Below.{count_le}
 use Rattle.rules.proofs.Counting.Counting.{count_more}
 use Rattle.rules.proofs.Counting.Sets.{member_none}
 use Rattle.rules.proofs.Meaning.Meanings.{means_decided}
-use Rattle.file.specs.declared.Plan.{Plan}
-use Rattle.file.specs.declared.Outcome.{Outcome}
+use Rattle.file.specs.Plan.{Plan, plan_for}
+use Rattle.file.specs.Figures.{Outcome, lost_in, bound_of, good_in, outcome_of, Accepts}
 use Rattle.file.specs.Section.{count_at}
 use Rattle.file.specs.Rules.{KeepsEveryRule}
 use Rattle.file.specs.Refusal.{file_refusals}
-use Rattle.file.specs.Plan.{plan_for}
 use Rattle.file.specs.Table.{head_of, starts_in, rows_in, coins_in, rounds_in, table_after}
 use Rattle.file.specs.Vote.{vote_for, channel_for, events_for, lost_to}
-use Rattle.file.specs.Figures.{lost_in, bound_of, good_in, outcome_of, Accepts}
 use Rattle.file.specs.Benched.{empty_table, benched_of}
 use Rattle.file.specs.Report.{report_of}
 use Rattle.file.specs.PrintedCase.{printed_case}

@@ -1,3 +1,5 @@
+pub mod Sizes
+pub mod Fault
 pub mod Section
 pub mod Plan
 pub mod Table

@@ -1,11 +1,21 @@
 -- A whole run file: its four sections in their order, then 15 and 16. Tests; what they mean is in Refusal, and where
 -- the plan's numbers stand in Rules.
-use Rattle.std.specs.Prelude.{ℕ, ◌+◌, ◌*◌, List, cond, length, get_or, ltb}
+use Rattle.std.specs.Prelude.{ℕ, ◌+◌, ◌*◌, List, cond, length, get_or, ltb, Result, Ok, Err}
 use Rattle.rules.specs.declared.Head.{Head}
-use Rattle.file.specs.declared.Section.{Section}
-use Rattle.file.specs.declared.Section.TheVariants.{Body, Refused}
-use Rattle.file.specs.declared.Plan.{Plan}
-use Rattle.file.specs.Section.{count_at, proposals_of, needed_of, losses_of, coins_of}
+use Rattle.file.specs.declared.Refusal.{Refusal}
+use Rattle.file.specs.declared.Plan.{Plan as Said}
+use Rattle.file.specs.Fault.{number_of}
+use Rattle.file.specs.Section.{Section, Body, Refused, count_at, proposals_of, needed_of, losses_of, coins_of}
+
+-- the plan of a file, with the number and the place at which it is refused; both are 0 of an accepted one
+pub record Plan : Type 0 where
+  pub number : ℕ
+  pub place : ℕ
+  pub n : ℕ
+  pub needed : ℕ
+  pub rounds : ℕ
+  pub losses : ℕ
+  pub coins : ℕ
 
 -- a refused file: no heads, no rounds
 abbrev pub refused_plan : ℕ → ℕ → Plan
@@ -39,3 +49,21 @@ plan_of file room =
 -- in the table that is lent
 abbrev pub plan_for : List ℕ → List Head → Plan
 plan_for file table = plan_of file (length table)
+
+-- what the code's answer stands for: the plan of an accepted file
+abbrev pub accepted_plan : Said → Plan
+accepted_plan said =
+    record {
+      number = 0;
+      place = 0;
+      n = said.n;
+      needed = said.needed;
+      rounds = said.rounds;
+      losses = said.losses;
+      coins = said.coins;
+    }
+
+-- or a refusal
+abbrev pub plan_read : Result Said Refusal → Plan
+plan_read (Ok said) = accepted_plan said
+plan_read (Err refusal) = refused_plan (number_of refusal.fault) refusal.place

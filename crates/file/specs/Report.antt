@@ -13,7 +13,7 @@ use Rattle.rules.specs.declared.Decision.{Decision}
 use Rattle.rules.specs.declared.Decision.TheVariants.{Zero as ForZero, One as ForOne, Unwritten}
 use Rattle.rules.specs.declared.Head.{Head}
 use Rattle.rules.specs.Below.{first}
-use Rattle.file.specs.declared.Outcome.{Outcome}
+use Rattle.file.specs.Figures.{Outcome}
 use Rattle.file.specs.Table.{head_of}
 use Rattle.file.specs.Benched.{benched_of}
 

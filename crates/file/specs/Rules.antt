@@ -1,6 +1,6 @@
 -- Where a plan's numbers stand in a file that keeps every rule; the rules themselves are the lines of Refusal.
 use Rattle.std.specs.Prelude.{ℕ, ◌+◌, ◌*◌, ◌≡◌, List, get_or}
-use Rattle.file.specs.declared.Plan.{Plan}
+use Rattle.file.specs.Plan.{Plan}
 use Rattle.file.specs.Section.{count_at}
 use Rattle.file.specs.Refusal.{file_refusals}
 use Rattle.rules.specs.Given.{Given}

@@ -1,12 +1,23 @@
 -- The sections of a run file: "Four sections in this order, each after a two-byte count, high byte first." Document 01,
 -- 'Run file and bench'. Tests; what they mean is in Refusal.
-use Rattle.std.specs.Prelude.{ℕ, ◌+◌, ◌*◌, ◌/◌, List, [], Bool, cond, ◌&&◌, not, length, get_or, take, drop, ltb, leb, eqb}
+use Rattle.std.specs.Prelude.{ℕ, ◌+◌, ◌*◌, ◌/◌, List, [], Bool, cond, ◌&&◌, not, length, get_or, take, drop, ltb, leb, eqb, Result, Ok, Err}
 use Rattle.rules.specs.Below.{first}
 use Rattle.rules.specs.Ballot.{not_heads}
 use Rattle.rules.specs.Heard.{over_half, within}
 use Rattle.rules.specs.Record.{four_bytes_at}
-use Rattle.file.specs.declared.Section.{Section}
-use Rattle.file.specs.declared.Section.TheVariants.{Body, Refused}
+use Rattle.file.specs.declared.Refusal.{Refusal}
+use Rattle.file.specs.declared.Body.{Body as Standing}
+use Rattle.file.specs.Fault.{number_of}
+
+-- "body or refusal with its place"
+pub data Section : Type 0 where
+  Body : (start length : ℕ) → Section
+  Refused : (number place : ℕ) → Section
+
+-- what a section reader's answer stands for
+abbrev pub section_read : Result Standing Refusal → Section
+section_read (Ok body) = Body body.start body.length
+section_read (Err refusal) = Refused (number_of refusal.fault) refusal.place
 
 -- "a two-byte count, high byte first"
 abbrev pub count_at : List ℕ → ℕ → ℕ

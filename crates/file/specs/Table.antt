@@ -6,8 +6,7 @@ use Rattle.rules.specs.Heard.{member}
 use Rattle.rules.specs.Head.{zero_head, start_of}
 use Rattle.rules.specs.Tick.{tick_of}
 use Rattle.rules.specs.Record.{four_bytes_at}
-use Rattle.file.specs.declared.Plan.{Plan}
-use Rattle.file.specs.Plan.{plan_for}
+use Rattle.file.specs.Plan.{Plan, plan_for}
 use Rattle.rules.specs.Round.{received}
 
 -- the head at a place of the table

@@ -18,15 +18,14 @@ use Rattle.rules.specs.Head.{zero_head, start_of, ballot_of, is_written}
 use Rattle.rules.specs.Record.{four_bytes_at}
 use Rattle.rules.specs.Round.{received}
 use Rattle.rules.specs.Tick.{tick_of}
-use Rattle.file.specs.declared.Plan.{Plan}
-use Rattle.file.specs.Plan.{plan_of}
+use Rattle.file.specs.Plan.{Plan, plan_of}
 use Rattle.file.specs.Table.{head_of, placed, rows_in, coins_in, ticked_in, round_in, rounds_in, start_in, starts_in, table_after}
 use Rattle.file.specs.Figures.{decided_in, outcome_of}
 use Rattle.file.proofs.Running.Placing.{placed_length, placed_rest, rounds_length}
 use Rattle.run.specs.Figures.{outcome_in}
 use Rattle.run.specs.Received.{received_from}
 use Rattle.run.proofs.Parts.{byte_of_part}
-use Rattle.run.proofs.Planned.{planned_room, planned_small}
+use Rattle.run.proofs.Planned.{planned_fits}
 
 -- ---- what a head receives
 
@@ -115,10 +114,10 @@ decided_is heads rest (suc k) h =
 -- the heads are as many as the plan says
 pub heads_are : (file : List ℕ) (table : List Head) (plan : Plan) → plan ≡ plan_of file (length table)
     → length (take plan.n table) ≡ plan.n
-heads_are file table plan is = length-take-le plan.n table (rw is (planned_room file (length table)))
+heads_are file table plan is = length-take-le plan.n table (rw is (planned_fits file (length table)).among_room)
 
 -- what the bench wants of its plan
-pub ruleset plans = (planned_room, planned_small, heads_are)
+pub ruleset plans = (planned_fits, heads_are)
 
 -- the bench: the first heads of the table, as they start and after all rounds
 module _ (file : List ℕ) (table begun last : List Head) (proposals : List ℕ) (plan : Plan) (r : ℕ)

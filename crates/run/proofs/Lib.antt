@@ -1,8 +1,8 @@
-pub mod Checking
 pub mod FirstHeads
 pub mod Only
 pub mod Parts
-pub mod Planned
+pub mod Pieces
 pub mod Planning
+pub mod Planned
 pub mod Reports
 pub mod Texts

@@ -3,46 +3,28 @@ use Prim.Native.Nat.{ℕ, ◌≤◌}
 use mathlib.Core.Path.{sym, subst}
 use mathlib.Core.List.{List}
 use mathlib.Core.Logic.{◌⊎◌, inl, inr}
-use native.Mathlib.Nat.{mul-le-mul}
 use native.Mathlib.Omega.{arith}
-use Rattle.file.specs.declared.Plan.{Plan}
-use Rattle.file.specs.Plan.{plan_of}
+use Rattle.file.specs.Plan.{Plan, plan_of}
 use Rattle.file.proofs.Reading.Plans.{RuleByRule, RefusedFile, planned}
-use Rattle.run.specs.Small.{Small}
 
 -- what the code wants of a plan
-abbrev Fits : ℕ → Plan → Type 0
-Fits room plan = (plan.n ≤ room) × Small plan
+pub record Fits (room : ℕ) (plan : Plan) : Type 0 where
+  pub among_room : plan.n ≤ room
+  pub few_heads : plan.n ≤ 32
+  pub need_among_them : plan.needed ≤ plan.n
+  pub few_rounds : plan.rounds ≤ 256
 
 fits : (file : List ℕ) (room : ℕ) (plan : Plan) → RuleByRule file room plan ⊎ RefusedFile file plan → Fits room plan
 fits file room plan (inl a) =
-    let least : plan.n ≤ 32 = omega (arith, a.heads) in
-    let products = mul-le-mul a.rounds least in (
-      a.enough,
-      record {
-        heads = least;
-        need = a.at_most;
-        rounds = a.rounds;
-        losses = omega
-            (arith, a.losses, least);
-        coins = omega (arith, a.coins, least, products);
-      },
-    )
+    record { among_room = a.enough; few_heads = a.heads.1; need_among_them = a.at_most; few_rounds = a.rounds }
 fits file room plan (inr r) =
-    subst (Fits room) (sym r.is) (
-      omega arith,
-      record {
-        heads = omega arith;
-        need = omega arith;
-        rounds = omega arith;
-        losses = omega arith;
-        coins =
-            omega arith;
-      },
-    )
+    subst (Fits room) (sym r.is)
+    (record {
+      among_room = omega arith;
+      few_heads = omega arith;
+      need_among_them = omega arith;
+      few_rounds = omega arith;
+    })
 
-pub planned_room : (file : List ℕ) (room : ℕ) → (plan_of file room).n ≤ room
-planned_room file room = (fits file room (plan_of file room) (planned file room)).0
-
-pub planned_small : (file : List ℕ) (room : ℕ) → Small (plan_of file room)
-planned_small file room = (fits file room (plan_of file room) (planned file room)).1
+pub planned_fits : (file : List ℕ) (room : ℕ) → Fits room (plan_of file room)
+planned_fits file room = fits file room (plan_of file room) (planned file room)

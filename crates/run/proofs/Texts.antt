@@ -10,7 +10,7 @@ use Rattle.rules.specs.declared.Status.TheVariants.{Undecided, Decided}
 use Rattle.rules.specs.declared.Decision.{Decision}
 use Rattle.rules.specs.declared.Decision.TheVariants.{Zero as ForZero, One as ForOne, Unwritten}
 use Rattle.rules.specs.declared.Head.{Head}
-use Rattle.file.specs.declared.Outcome.{Outcome}
+use Rattle.file.specs.Figures.{Outcome}
 use Rattle.file.specs.Table.{head_of}
 use Rattle.file.specs.Benched.{benched_of}
 use Rattle.file.specs.Report.{word, value_word, status_word, decision_word, first_line, head_line, head_lines}

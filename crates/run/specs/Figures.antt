@@ -1,8 +1,7 @@
 -- The answer with its figures, as the bench makes it when the written decisions are counted.
 use Rattle.std.specs.Prelude.{ℕ, List}
-use Rattle.file.specs.declared.Plan.{Plan}
-use Rattle.file.specs.declared.Outcome.{Outcome}
-use Rattle.file.specs.Figures.{bound_of, good_in}
+use Rattle.file.specs.Plan.{Plan}
+use Rattle.file.specs.Figures.{Outcome, bound_of, good_in}
 
 abbrev pub outcome_in : List ℕ → Plan → ℕ → Outcome
 outcome_in file plan decided =

@@ -1,7 +1,5 @@
 pub mod Sections
-pub mod Plans
 pub mod Received
-pub mod Small
 pub mod Writing
 pub mod Text
 pub mod Figures

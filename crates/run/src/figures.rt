@@ -2,23 +2,20 @@
 ghost use Rattle.std.specs.Prelude.{◌≡◌, ◌≤◌, count_by};
 ghost use Rattle.rules.specs.Sizes.{heads_most};
 ghost use Rattle.rules.specs.Head.{is_written};
-ghost use Rattle.file.specs.Figures.{lost_in, bound_of, good_in};
+ghost use Rattle.file.specs.Plan.{accepted_plan};
+ghost use Rattle.file.specs.Figures.{accepted_outcome, lost_in, bound_of, good_in};
 ghost use Rattle.run.specs.Figures.{outcome_in};
-ghost use Rattle.run.specs.Small.{Small};
 
 use crate::plans::rows_of;
 use crate::sections::row_at;
 use codes::{SET_BYTES, size};
-use file::{Outcome, Plan};
+use file::{Figures, Plan};
 use rules::{Decision, Head};
 
-pub(crate) fn outcome(file: &[u8], plan: Plan, heads: &[Head]) -> Outcome
-    requires { Small plan }
-    ensures { result ≡ outcome_in file.now plan (count_by is_written heads.now) }
+pub(crate) fn figures(file: &[u8], plan: Plan, heads: &[Head]) -> Figures
+    ensures { accepted_outcome result ≡ outcome_in file.now (accepted_plan plan) (count_by is_written heads.now) }
 {
-    Outcome {
-        number: plan.number,
-        place: plan.place,
+    Figures {
         n: plan.n,
         needed: plan.needed,
         bound: bound(plan),
@@ -30,7 +27,6 @@ pub(crate) fn outcome(file: &[u8], plan: Plan, heads: &[Head]) -> Outcome
 
 // "ceil(n/2) × (n - k) + k - 2"; 0 where there are no heads.
 fn bound(plan: Plan) -> usize
-    requires { Small plan }
     ensures { result ≡ bound_of plan.n plan.needed }
 {
     let n = plan.n;
@@ -41,8 +37,7 @@ fn bound(plan: Plan) -> usize
 // "A round is good if its lost ballots, of n × n, are at most" the bound.
 #[tactic(auto, unfolding(rules::specs::Below::count))]
 fn good(file: &[u8], plan: Plan) -> usize
-    requires { Small plan }
-    ensures { result ≡ good_in file.now plan plan.rounds }
+    ensures { result ≡ good_in file.now (accepted_plan plan) plan.rounds }
 {
     let bound = bound(plan);
     let mut good = 0;

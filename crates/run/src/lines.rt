@@ -1,38 +1,39 @@
 // The lines of a report, each added to a text.
-ghost use Rattle.std.specs.Prelude.{◌≡◌, length};
+ghost use Rattle.std.specs.Prelude.{◌≡◌, length, Ok, Err};
+ghost use Rattle.file.specs.Figures.{outcome_read};
 ghost use Rattle.file.specs.Report.{value_word, status_word, decision_word};
 ghost use Rattle.file.specs.Report.{first_line, head_line, head_lines, last_line, refusal_line};
 ghost use Rattle.run.specs.Writing.{with_word};
 
 use crate::text::Text;
-use file::Outcome;
+use file::{Figures, Refusal};
 use rules::{Decision, Head, Status, Value};
 
 #[tactic(auto, using(crate::proofs::Texts::word_word), unfolding(crate::proofs::Texts::writing))]
 impl Text {
-    pub(crate) fn push_refusal_line(&mut self, outcome: Outcome)
-        ensures { self.new ≡ with_word self.old (refusal_line outcome) }
+    pub(crate) fn push_refusal_line(&mut self, refusal: Refusal)
+        ensures { self.new ≡ with_word self.old (refusal_line (outcome_read (Err refusal))) }
     {
-        self.push_figure(b"refused ", outcome.number as usize);
-        self.push_figure(b" at ", outcome.place);
+        self.push_figure(b"refused ", refusal.number() as usize);
+        self.push_figure(b" at ", refusal.place);
         self.push(b"\n");
     }
 
-    pub(crate) fn push_first_line(&mut self, outcome: Outcome)
-        ensures { self.new ≡ with_word self.old (first_line outcome) }
+    pub(crate) fn push_first_line(&mut self, figures: Figures)
+        ensures { self.new ≡ with_word self.old (first_line (outcome_read (Ok figures))) }
     {
-        self.push_figure(b"heads ", outcome.n);
-        self.push_figure(b" need ", outcome.needed);
-        self.push_figure(b" bound ", outcome.bound);
+        self.push_figure(b"heads ", figures.n);
+        self.push_figure(b" need ", figures.needed);
+        self.push_figure(b" bound ", figures.bound);
         self.push(b"\n");
     }
 
-    pub(crate) fn push_last_line(&mut self, outcome: Outcome)
-        ensures { self.new ≡ with_word self.old (last_line outcome) }
+    pub(crate) fn push_last_line(&mut self, figures: Figures)
+        ensures { self.new ≡ with_word self.old (last_line (outcome_read (Ok figures))) }
     {
-        self.push_figure(b"rounds ", outcome.rounds);
-        self.push_figure(b" good ", outcome.good);
-        self.push_figure(b" decided ", outcome.decided);
+        self.push_figure(b"rounds ", figures.rounds);
+        self.push_figure(b" good ", figures.good);
+        self.push_figure(b" decided ", figures.decided);
         self.push(b"\n");
     }
 

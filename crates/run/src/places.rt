@@ -3,20 +3,18 @@ ghost use Rattle.std.specs.Prelude.{◌≡◌, ◌≤◌, min, get_or, take, dro
 
 // The part of the bytes that stands at an accepted start, of an accepted length; an empty one where the
 // length is 0, as at a refusal. Where there are fewer bytes, as many as there are.
-pub(crate) fn part<'a>(bytes: &'a [u8], start: usize, length: usize) -> &'a [u8]
+pub(crate) fn part(bytes: &[u8], start: usize, length: usize) -> &[u8]
     ensures { result.now ≡ take length (drop start bytes.now) }
 {
-    let from = least(start, bytes.len());
-    let more = least(length, bytes.len() - from);
-    let end = from + more;
-    &bytes[from..end]
+    let rest = bytes.get(start..).unwrap_or(&[]);
+    rest.get(..length).unwrap_or(rest)
 }
 
 // The byte at a place, or 0 where there are no more.
 pub(crate) fn byte_at(bytes: &[u8], place: usize) -> u8
     ensures { result ≡ get_or bytes.now place 0 }
 {
-    if place < bytes.len() { bytes[place] } else { 0 }
+    bytes.get(place).copied().unwrap_or(0)
 }
 
 // The lesser of two numbers.

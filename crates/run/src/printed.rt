@@ -10,16 +10,14 @@ pub fn report(file: &[u8]) -> Text
     ensures { result ≡ report_of file.now }
 {
     let done = run_file(file);
-    let outcome = done.outcome;
-    let refused = outcome.number != 0;
     let mut text = Text::new();
-    if refused {
-        text.push_refusal_line(outcome);
-        return text;
+    match done.outcome {
+        Err(refusal) => text.push_refusal_line(refusal),
+        Ok(figures) => {
+            text.push_first_line(figures);
+            text.push_head_lines(&done.heads[..figures.n]);
+            text.push_last_line(figures);
+        }
     }
-    text.push_first_line(outcome);
-    let heads = &done.heads[..outcome.n];
-    text.push_head_lines(heads);
-    text.push_last_line(outcome);
     text
 }

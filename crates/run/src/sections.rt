@@ -1,17 +1,17 @@
 // The sections of a run file: "the count is read, then its rule tested, then the body's length, then
 // its bytes."
-ghost use Rattle.std.specs.Prelude.{◌≡◌, ◌||◌, ltb, ◌+◌, ◌*◌, ◌/◌, ◌≤◌, length};
-ghost use Rattle.rules.specs.Below.{first};
+ghost use Rattle.std.specs.Prelude.{◌≡◌, ◌<◌, ◌≤◌, ℕ, List, Bool};
+ghost use Rattle.std.specs.Fn.{FnReturnsAt};
 ghost use Rattle.rules.specs.Sizes.{heads_most};
 ghost use Rattle.rules.specs.Record.{four_bytes_at};
-ghost use Rattle.file.specs.Section.{count_at, not_row};
+ghost use Rattle.file.specs.Section.{count_at, section_at, section_read};
+ghost use Rattle.file.specs.Section.{not_bit, not_need, not_row};
 ghost use Rattle.file.specs.Section.{proposals_of, needed_of, losses_of, coins_of};
-ghost use Rattle.run.specs.Sections.{file_most, count_bytes, count_most, rounds_most, body_most};
-ghost use Rattle.run.specs.Sections.{set_bytes, Near, outside, unless_broken, counted as counted_of, checked};
+ghost use Rattle.run.specs.Sections.{Tests};
 
 use crate::places::{byte_at, part};
-use codes::{SET_BYTES, four_bytes_of, not_heads, within};
-use file::Section;
+use codes::{SET_BYTES, not_heads, within};
+use file::{Body, Fault, Refusal};
 
 // "a two-byte count"
 pub(crate) const COUNT_BYTES: usize = 2;
@@ -20,177 +20,129 @@ pub(crate) const COUNT_BYTES: usize = 2;
 const ROUNDS_MOST: usize = 256;
 
 // "Count n (2 to 32), then n proposals (0 or 1)."
-pub(crate) fn proposals(file: &[u8]) -> Section
-    ensures { result ≡ proposals_of file.now }
+pub(crate) fn proposals(file: &[u8]) -> Result<Body, Refusal>
+    ensures { section_read result ≡ proposals_of file.now }
 {
     let n = count_at(file, 0);
-    checked_bytes(file, counted(file, 0, not_heads(n as u32), n), 0, 1)
+    section(file, 0, not_heads(n as u32), n as usize, 1, not_bit)
 }
 
 // "Count 1, then k, the heads needed: more than n/2, at most n."
-pub(crate) fn needed(file: &[u8], at: usize, n: usize) -> Section
-    requires at_le_file_most { at ≤ file_most }
-    requires n_le_heads_most { n ≤ heads_most }
-    ensures { result ≡ needed_of file.now at n }
+pub(crate) fn needed(file: &[u8], at: usize, n: usize) -> Result<Body, Refusal>
+    ensures { section_read result ≡ needed_of file.now at n }
 {
     let count = count_at(file, at);
-    checked_bytes(file, counted(file, at, count != 1, 1), n / 2 + 1, n)
+    section(
+        file,
+        at,
+        count != 1,
+        1,
+        1,
+        |need: &[u8]|
+            ensures { result ≡ not_need n need.now 0 }
+        {
+            let k = byte_at(need, 0) as usize;
+            k * 2 <= n || n < k
+        },
+    )
 }
 
 // "Count of rounds, 0 to 256; per round n rows of 4 bytes"
-pub(crate) fn losses(file: &[u8], at: usize, n: usize) -> Section
-    requires at_le_file_most { at ≤ file_most }
-    requires n_le_heads_most { n ≤ heads_most }
-    ensures { result ≡ losses_of file.now at n }
+pub(crate) fn losses(file: &[u8], at: usize, n: usize) -> Result<Body, Refusal>
+    requires { n ≤ heads_most }
+    ensures { section_read result ≡ losses_of file.now at n }
 {
-    let rounds = count_at(file, at);
-    checked_rows(
+    let rounds = count_at(file, at) as usize;
+    let size = rounds * n * SET_BYTES;
+    let heads = n as u32;
+    section(
         file,
-        counted(file, at, ROUNDS_MOST < rounds, rounds * n * SET_BYTES),
-        n,
+        at,
+        ROUNDS_MOST < rounds,
+        size,
+        SET_BYTES,
+        |row: &[u8]|
+            ensures { result ≡ not_row heads row.now 0 }
+        { !within(row_at(row, 0), heads) },
     )
 }
 
 // "Count n times rounds, then that many coins (0 or 1)"
-pub(crate) fn coins(file: &[u8], at: usize, count: usize) -> Section
-    requires at_le_file_most { at ≤ file_most }
-    requires count_bound { count ≤ rounds_most * heads_most }
-    ensures { result ≡ coins_of file.now at count }
+pub(crate) fn coins(file: &[u8], at: usize, count: usize) -> Result<Body, Refusal>
+    ensures { section_read result ≡ coins_of file.now at count }
 {
-    let read = count_at(file, at);
-    checked_bytes(file, counted(file, at, read != count, count), 0, 1)
+    let read = count_at(file, at) as usize;
+    section(file, at, read != count, count, 1, not_bit)
 }
 
 // "a two-byte count, high byte first"
-pub(crate) fn count_at(file: &[u8], place: usize) -> usize
-    requires { place ≤ file_most }
-    ensures value { result ≡ count_at file.now place }
-    ensures upper_bound { result ≤ count_most }
+pub(crate) fn count_at(file: &[u8], place: usize) -> u16
+    ensures { result ≡ count_at file.now place }
 {
-    byte_at(file, place) as usize * 256 + byte_at(file, place + 1) as usize
+    let count = part(file, place, COUNT_BYTES);
+    u16::from_be_bytes([byte_at(count, 0), byte_at(count, 1)])
 }
 
 // "rows of 4 bytes, high byte first"
 pub(crate) fn row_at(rows: &[u8], place: usize) -> u32
-    requires { place ≤ body_most }
     ensures { result ≡ four_bytes_at rows.now place }
 {
-    four_bytes_of(
-        byte_at(rows, place),
-        byte_at(rows, place + 1),
-        byte_at(rows, place + 2),
-        byte_at(rows, place + 3),
-    )
+    let row = part(rows, place, SET_BYTES);
+    u32::from_be_bytes([
+        byte_at(row, 0),
+        byte_at(row, 1),
+        byte_at(row, 2),
+        byte_at(row, 3),
+    ])
 }
 
-// The section whose count stands at a place, its bytes not yet looked at.
-fn counted(file: &[u8], at: usize, breaks: bool, size: usize) -> Section
-    requires at_le_file_most { at ≤ file_most }
-    requires size_le_body_most { size ≤ body_most }
-    ensures value { result ≡ counted_of file.now at breaks size }
-    ensures near { Near result }
+// The section whose count stands at a place, with a body of so many bytes, in pieces of so many.
+fn section<F: Fn(&[u8]) -> bool>(
+    file: &[u8],
+    at: usize,
+    count_breaks: bool,
+    size: usize,
+    width: usize,
+    breaks: F,
+) -> Result<Body, Refusal>
+    requires some_bytes { 0 < width }
+    requires callable { F.IsAlwaysCallable breaks }
+    ensures { (test : List ℕ → ℕ → Bool) → Tests width (FnReturnsAt F.Fn breaks) test
+        → section_read result ≡ section_at file.now at count_breaks size width test }
 {
-    let end = file.len();
-    if end < at + COUNT_BYTES {
-        return Section::Refused {
-            number: 12,
-            place: end,
-        };
+    let start = at.saturating_add(COUNT_BYTES);
+    let ends = Refusal {
+        fault: Fault::EndsInsideCountOrBody,
+        place: file.len(),
+    };
+    if file.len() < start {
+        return Err(ends);
     }
-    if breaks {
-        return Section::Refused {
-            number: 13,
+    if count_breaks {
+        return Err(Refusal {
+            fault: Fault::CountBreaksItsRule,
             place: at,
-        };
+        });
     }
-    if end < at + COUNT_BYTES + size {
-        return Section::Refused {
-            number: 12,
-            place: end,
-        };
+    if file.len() - start < size {
+        return Err(ends);
     }
-    Section::Body {
-        start: at + COUNT_BYTES,
-        length: size,
+    let body = part(file, start, size);
+    match body.chunks_exact(width).position(|piece| breaks(piece)) {
+        Some(i) => Err(Refusal {
+            fault: Fault::BytesBreakTheirRule,
+            place: start + i * width,
+        }),
+        None => Ok(Body {
+            start,
+            length: size,
+        }),
     }
 }
 
-// The section, unless a byte of its body is below low or above high.
-fn checked_bytes(file: &[u8], section: Section, low: usize, high: usize) -> Section
-    requires { Near section }
-    ensures { result ≡ checked file.now 1 (outside low high) section }
+// A proposal or a coin that is not "0 or 1".
+fn not_bit(byte: &[u8]) -> bool
+    ensures { result ≡ not_bit byte.now 0 }
 {
-    let Section::Body { start, length } = section else {
-        return section;
-    };
-    let body = part(file, start, length);
-    let broken = first_outside(body, low, high);
-    unless_broken(start, length, broken, body.len(), 1)
-}
-
-// The section, unless a row of its body has a bit from n up.
-fn checked_rows(file: &[u8], section: Section, n: usize) -> Section
-    requires near { Near section }
-    requires n_le_heads_most { n ≤ heads_most }
-    ensures { result ≡ checked file.now set_bytes (not_row n) section }
-{
-    let Section::Body { start, length } = section else {
-        return section;
-    };
-    let rows = part(file, start, length);
-    let broken = first_not_row(rows, n);
-    unless_broken(start, length, broken, rows.len() / SET_BYTES, SET_BYTES)
-}
-
-// The section, unless one of its body's pieces, each of so many bytes, breaks its rule.
-fn unless_broken(start: usize, length: usize, broken: usize, pieces: usize, width: usize) -> Section
-    requires start_bound { start ≤ file_most + count_bytes }
-    requires broken_le_body_most { broken ≤ body_most }
-    requires width_le_set_bytes { width ≤ set_bytes }
-    ensures { result ≡ unless_broken start length broken pieces width }
-{
-    if broken < pieces {
-        return Section::Refused {
-            number: 14,
-            place: start + broken * width,
-        };
-    }
-    Section::Body { start, length }
-}
-
-// The first byte that is below low or above high; where there is none, the number of bytes.
-fn first_outside(bytes: &[u8], low: usize, high: usize) -> usize
-    ensures { result ≡ first (length bytes.now) (outside low high bytes.now) }
-{
-    let mut i: usize = 0;
-    while i < bytes.len() {
-        if is_outside(bytes[i], low, high) {
-            return i;
-        }
-        i += 1;
-    }
-    i
-}
-
-fn is_outside(byte: u8, low: usize, high: usize) -> bool
-    ensures { result ≡ ltb byte low || ltb high byte }
-{
-    ((byte as usize) < low) | (high < (byte as usize))
-}
-
-// The first row with a bit from n up; where there is none, the number of rows.
-fn first_not_row(rows: &[u8], n: usize) -> usize
-    requires rows_len_bound { length rows.now ≤ body_most }
-    requires n_le_heads_most { n ≤ heads_most }
-    ensures { result ≡ first (length rows.now / set_bytes) (λ i. not_row n rows.now (i * set_bytes)) }
-{
-    let count = rows.len() / SET_BYTES;
-    let mut i: usize = 0;
-    while i < count {
-        if !within(row_at(rows, i * SET_BYTES), n as u32) {
-            return i;
-        }
-        i += 1;
-    }
-    i
+    1 < byte_at(byte, 0)
 }

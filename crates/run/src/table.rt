@@ -3,38 +3,38 @@ ghost use Rattle.std.specs.Prelude.{◌≡◌, ◌≤◌, length, get_or};
 ghost use Rattle.rules.specs.Head.{start_of};
 ghost use Rattle.rules.specs.Sizes.{heads_most};
 ghost use Rattle.file.specs.Table.{placed, round_in, table_after};
-ghost use Rattle.file.specs.Figures.{outcome_of};
-ghost use Rattle.file.specs.Benched.{benched_of};
+ghost use Rattle.file.specs.Figures.{outcome_of, outcome_read};
+ghost use Rattle.file.specs.Benched.{benched_of, benched_read};
 
-use crate::figures::outcome;
+use crate::figures::figures;
 use crate::heads::{ballots_of, ticked};
 use crate::places::{byte_at, part};
 use crate::plans::{coins_of, plan_of, rows_of};
 use crate::sections::{COUNT_BYTES, row_at};
 use codes::{HEADS_MOST, SET_BYTES, zero_head};
 use engine::start;
-use file::{Benched, Outcome};
+use file::{Benched, Figures, Refusal};
 use rules::Head;
 
 // "The bench works in a lent table of heads, n or more; after a run the first n are the heads and
 // the others are untouched. Refused: nothing in the table changes."
 #[tactic(auto, using(crate::proofs::FirstHeads::plans), unfolding(file::specs::Table::rounds_in))]
-pub fn bench(file: &[u8], table: &mut [Head]) -> Outcome
-    ensures value { result ≡ outcome_of file.now table.old }
+pub fn bench(file: &[u8], table: &mut [Head]) -> Result<Figures, Refusal>
+    ensures value { outcome_read result ≡ outcome_of file.now table.old }
     ensures table_after { table.new ≡ table_after file.now table.old }
 {
-    let plan = plan_of(file, table.len());
+    let plan = plan_of(file, table.len())?;
     let heads = &mut table[..plan.n];
     start_all(heads, part(file, COUNT_BYTES, plan.n));
     for r in 0..plan.rounds {
         round(heads, rows_of(file, plan, r), coins_of(file, plan, r));
     }
-    outcome(file, plan, heads)
+    Ok(figures(file, plan, heads))
 }
 
 // The same in a table of 32 that is made here and given back: whoever calls this lends nothing.
 pub fn run_file(file: &[u8]) -> Benched
-    ensures { result ≡ benched_of file.now }
+    ensures { benched_read result ≡ benched_of file.now }
 {
     let mut heads = [zero_head(); HEADS_MOST as usize];
     let outcome = bench(file, &mut heads);

@@ -15,17 +15,15 @@ use Rattle.rules.specs.Run.{head_in}
 use Rattle.rules.proofs.Counting.Below.{count_le}
 use Rattle.rules.proofs.Rounds.Rounds.{sent_now}
 use Rattle.rules.proofs.Undivided.Phases.{phases_low}
-use Rattle.file.specs.declared.Plan.{Plan}
-use Rattle.file.specs.declared.Outcome.{Outcome}
-use Rattle.file.specs.Plan.{plan_of}
+use Rattle.file.specs.Plan.{Plan, plan_of}
 use Rattle.file.specs.Table.{head_of, rows_in, table_after}
-use Rattle.file.specs.Figures.{lost_in, bound_of, good_in, decided_in, outcome_of}
+use Rattle.file.specs.Figures.{Outcome, lost_in, bound_of, good_in, decided_in, refused_outcome, outcome_of}
 use Rattle.file.specs.Vote.{vote_for, events_for}
 use Rattle.file.specs.Benched.{empty_table, benched_of}
 use Rattle.file.specs.Report.{first_line, head_lines, last_line, refusal_line, report_of, SameState}
 use Rattle.file.proofs.Reading.Plans.{RuleByRule, RefusedFile, accepted_file, refused_file}
 use Rattle.file.proofs.Running.BenchIsRun.{heads_are, rounds_are_run, events_length}
-use Rattle.file.proofs.Reading.FirstBytes.{refused_outcome}
+use Rattle.file.proofs.Reading.FirstBytes.{outcome_refused}
 use Rattle.file.proofs.Printing.LinesApart.{Printable, PrintableOutcome, refusal_apart, first_apart, lines_apart}
 use Rattle.file.proofs.Printing.LinesApart.{last_apart}
 
@@ -46,7 +44,7 @@ module _ (file : List ℕ) (short : length file < 2 ^ 64) where
 
   refused_small : RefusedFile file plan → PrintableOutcome outcome
   refused_small R =
-      subst PrintableOutcome (sym (refused_outcome file empty_table R.number R.place R.is))
+      subst PrintableOutcome (sym (outcome_refused file empty_table R.number R.place R.is))
       (record {
         number = omega (arith, R.high);
         place = omega (arith, R.near, short);
@@ -204,24 +202,11 @@ module _ (file other : List ℕ) (short : length file < 2 ^ 64) (brief : length 
       S : RefusedFile other (plan_of other 32)
       S = refused_file other 32 (λ zero. b (number_is other brief ∙ zero))
 
-      answered : ℕ → ℕ → Outcome
-      answered number place =
-          record {
-            number = number;
-            place = place;
-            n = 0;
-            needed = 0;
-            bound = bound_of 0 0;
-            rounds = 0;
-            good = 0;
-            decided = 0;
-          }
+      first : o ≡ refused_outcome R.number R.place
+      first = outcome_refused file empty_table R.number R.place R.is
 
-      first : o ≡ answered R.number R.place
-      first = refused_outcome file empty_table R.number R.place R.is
-
-      second : p ≡ answered S.number S.place
-      second = refused_outcome other empty_table S.number S.place S.is
+      second : p ≡ refused_outcome S.number S.place
+      second = outcome_refused other empty_table S.number S.place S.is
 
       same : (o.number ≡ p.number) × (o.place ≡ p.place)
       same =
@@ -231,7 +216,7 @@ module _ (file other : List ℕ) (short : length file < 2 ^ 64) (brief : length 
       is : o ≡ p
       is =
           first
-          ∙ ap₂ (λ (number place : ℕ). answered number place)
+          ∙ ap₂ (λ (number place : ℕ). refused_outcome number place)
           (sym (ap (λ (q : Outcome). q.number) first) ∙ same.0 ∙ ap (λ (q : Outcome). q.number) second)
           (sym (ap (λ (q : Outcome). q.place) first) ∙ same.1 ∙ ap (λ (q : Outcome). q.place) second)
           ∙ sym second

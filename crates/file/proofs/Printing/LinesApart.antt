@@ -7,7 +7,7 @@ use native.Mathlib.Omega.{arith}
 use lib.ListN.{drop}
 use lib.Dec.{lit<}
 use Rattle.rules.specs.declared.Head.{Head}
-use Rattle.file.specs.declared.Outcome.{Outcome}
+use Rattle.file.specs.Figures.{Outcome}
 use Rattle.file.specs.Table.{head_of}
 use Rattle.file.specs.Report.{word, decimal, figure, first_line, head_line, head_lines, last_line, refusal_line, SameState}
 use Rattle.file.proofs.Printing.Decimals.{decimal_tells, decimal_lacks}

@@ -7,20 +7,18 @@ use native.Mathlib.Nat.{mul-le-mul}
 use native.Mathlib.Omega.{arith}
 use lib.ListN.{length}
 use Rattle.rules.specs.declared.Head.{Head}
-use Rattle.file.specs.declared.Plan.{Plan}
-use Rattle.file.specs.declared.Outcome.{Outcome}
+use Rattle.file.specs.Plan.{Plan, plan_for}
+use Rattle.file.specs.Figures.{Outcome, outcome_of, Accepts}
 use Rattle.file.specs.Rules.{KeepsEveryRule}
 use Rattle.file.specs.Refusal.{file_refusals}
-use Rattle.file.specs.Plan.{plan_for}
 use Rattle.file.specs.Table.{table_after}
-use Rattle.file.specs.Figures.{outcome_of, Accepts}
 use Rattle.file.specs.Benched.{empty_table, benched_of}
 use Rattle.file.proofs.Reading.Plans.{RuleByRule, RefusedFile, plan_given, accepted_file, refused_file}
 use Rattle.file.proofs.Reading.Plans.{accepted_exactly}
 use Rattle.file.proofs.Reading.Plans.{no_line_applies}
 use Rattle.file.proofs.Reading.NeverSixteen.{never_sixteen}
 use Rattle.file.proofs.Reading.LargestFile.{padded, padded_length, largest_keeps}
-use Rattle.file.proofs.Reading.FirstBytes.{refused_outcome, refused_table}
+use Rattle.file.proofs.Reading.FirstBytes.{outcome_refused, refused_table}
 use Rattle.rules.specs.Given.{Given}
 
 same_number : (file : List ℕ) (table : List Head) → (outcome_of file table).number ≡ (plan_for file table).number
@@ -85,4 +83,4 @@ pub refused_counts_nobody : (file : List ℕ) (table : List Head) → (Accepts f
     → (outcome_of file table).decided ≡ 0
 refused_counts_nobody file table not_zero =
     let R = refused file table not_zero in
-    ap (λ (o : Outcome). o.decided) (refused_outcome file table R.number R.place R.is)
+    ap (λ (o : Outcome). o.decided) (outcome_refused file table R.number R.place R.is)

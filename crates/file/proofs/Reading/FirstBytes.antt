@@ -14,15 +14,12 @@ use Rattle.rules.specs.declared.Head.{Head}
 use Rattle.rules.specs.Below.{first, count}
 use Rattle.rules.specs.Ballot.{not_heads}
 use Rattle.rules.proofs.Meaning.Meanings.{heads}
-use Rattle.file.specs.declared.Section.{Section}
-use Rattle.file.specs.declared.Section.TheVariants.{Body, Refused}
-use Rattle.file.specs.declared.Plan.{Plan}
-use Rattle.file.specs.declared.Outcome.{Outcome}
+use Rattle.file.specs.Section.{Section, Body, Refused}
+use Rattle.file.specs.Plan.{Plan, refused_plan, taken, plan_of}
 use Rattle.file.specs.Section.{count_at, body_of, section_at, not_bit, not_need, not_row, proposals_of, needed_of}
 use Rattle.file.specs.Section.{losses_of, coins_of}
-use Rattle.file.specs.Plan.{refused_plan, taken, plan_of}
 use Rattle.file.specs.Table.{table_after}
-use Rattle.file.specs.Figures.{bound_of, outcome_of}
+use Rattle.file.specs.Figures.{Outcome, bound_of, refused_outcome, outcome_of}
 use Rattle.file.specs.Benched.{empty_table}
 use Rattle.file.specs.Report.{first_line, head_lines, last_line, refusal_line, report_of}
 use Rattle.file.proofs.Reading.Sections.{ordered, proposals_body, needed_body, losses_body, coins_body}
@@ -31,21 +28,10 @@ use Rattle.file.proofs.Running.Placing.{after_nothing}
 
 -- ---- a refused file's outcome is its number and place
 
-pub refused_outcome : (file : List ℕ) (table : List Head) (number place : ℕ) → plan_of file (length table)
-    ≡ refused_plan number place
-    → outcome_of file table ≡ record {
-      number = number;
-      place = place;
-      n = 0;
-      needed = 0;
-      bound = bound_of 0 0;
-      rounds =
-          0;
-      good = 0;
-      decided = 0;
-    }
-unfolding outcome_of count
-refused_outcome file table number place e = rw e refl
+pub outcome_refused : (file : List ℕ) (table : List Head) (number place : ℕ)
+    → plan_of file (length table) ≡ refused_plan number place → outcome_of file table ≡ refused_outcome number place
+unfolding outcome_of count bound_of
+outcome_refused file table number place e = rw e refl
 
 pub refused_table : (file : List ℕ) (table : List Head) (number place : ℕ)
     → plan_of file (length table) ≡ refused_plan number place → table_after file table ≡ table
@@ -202,8 +188,8 @@ module _ (file : List ℕ) (m : ℕ) (enough : 41002 ≤ m) (longer : m < length
   unfolding report_of
   front_decides =
       let R = refused_file file 32 goes_on in
-      let e = refused_outcome file empty_table R.number R.place R.is in
-      let f = refused_outcome front empty_table R.number R.place (plan_same 32 ∙ R.is) in
+      let e = outcome_refused file empty_table R.number R.place R.is in
+      let f = outcome_refused front empty_table R.number R.place (plan_same 32 ∙ R.is) in
       let x = refused_table file empty_table R.number R.place R.is in
       let y = refused_table front empty_table R.number R.place (plan_same 32 ∙ R.is) in
       ap₂ (λ (o : Outcome) (t : List Head). cond (eqb o.number 0)

@@ -11,7 +11,7 @@ use Rattle.rules.specs.Heard.{member}
 use Rattle.rules.specs.Record.{four_bytes_at}
 use Rattle.rules.proofs.Counting.Sets.{member_none}
 use Rattle.rules.proofs.Counting.Truth.{never}
-use Rattle.file.specs.declared.Plan.{Plan}
+use Rattle.file.specs.Plan.{Plan}
 use Rattle.file.proofs.Reading.Plans.{RuleByRule}
 
 abbrev zeros : ℕ → List ℕ

@@ -13,13 +13,10 @@ use Rattle.rules.specs.Heard.{member}
 use Rattle.rules.specs.Record.{four_bytes_at}
 use Rattle.rules.specs.Given.{Heads, Row, ◌exactly_at◌, Given}
 use Rattle.rules.proofs.Counting.Truth.{never}
-use Rattle.file.specs.declared.Section.{Section}
-use Rattle.file.specs.declared.Section.TheVariants.{Refused}
-use Rattle.file.specs.declared.Plan.{Plan}
-use Rattle.file.specs.Section.{count_at, section_at, proposals_of, needed_of, losses_of, coins_of}
+use Rattle.file.specs.Section.{Section, Refused, count_at, section_at, proposals_of, needed_of, losses_of, coins_of}
+use Rattle.file.specs.Plan.{Plan, refused_plan, taken, plan_of}
 use Rattle.file.specs.Rules.{StandsIn, KeepsEveryRule}
 use Rattle.file.specs.Refusal.{section_refusals, BitAt, Need, LossRow, file_refusals}
-use Rattle.file.specs.Plan.{refused_plan, taken, plan_of}
 use Rattle.file.proofs.Reading.Sections.{Tells, tells_below, Meant, KeptSection, kept, tells_rule}
 use Rattle.file.proofs.Reading.Sections.{tells_first}
 use Rattle.file.proofs.Reading.Sections.{first_near, proposals_meant, needed_meant, losses_meant, coins_meant}

@@ -19,9 +19,7 @@ use Rattle.rules.proofs.Counting.Truth.{Means, never, not_false, means_as, means
 use Rattle.rules.proofs.Counting.Truth.{means_eq}
 use Rattle.rules.proofs.Counting.Below.{not_some, first_holds, first_before, first_at}
 use Rattle.rules.proofs.Counting.Sets.{means_within}
-use Rattle.file.specs.declared.Section.{Section}
-use Rattle.file.specs.declared.Section.TheVariants.{Body, Refused}
-use Rattle.file.specs.Section.{count_at, body_of, section_at, not_bit, not_need}
+use Rattle.file.specs.Section.{Section, Body, Refused, count_at, body_of, section_at, not_bit, not_need}
 use Rattle.file.specs.Section.{not_row, proposals_of, needed_of, losses_of, coins_of}
 use Rattle.file.specs.Refusal.{FirstThatBreaks, BitAt, Need, LossRow}
 

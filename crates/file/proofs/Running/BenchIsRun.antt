@@ -18,7 +18,7 @@ use Rattle.rules.specs.Run.{head_in, Run}
 use Rattle.rules.specs.Round.{received, ticks_of_round}
 use Rattle.rules.proofs.Rounds.Rounds.{round_is_run, untouched, ticked_once}
 use Rattle.rules.proofs.Undivided.Phases.{no_early_refusal}
-use Rattle.file.specs.declared.Plan.{Plan}
+use Rattle.file.specs.Plan.{Plan}
 use Rattle.file.specs.Table.{head_of, start_in, starts_in, rows_in, coins_in, ticked_in, round_in, rounds_in}
 use Rattle.file.proofs.Reading.Plans.{RuleByRule}
 use Rattle.file.proofs.Running.Voting.{vote_in, channel_in, events_in}

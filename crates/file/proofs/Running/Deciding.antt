@@ -14,7 +14,7 @@ use Rattle.rules.specs.Run.{Event, head_in, EveryHeadDecides}
 use Rattle.rules.specs.Round.{received, LosesNothing}
 use Rattle.rules.proofs.Rounds.Rounds.{ticked_once}
 use Rattle.rules.proofs.Undivided.Decisions.{tick_keeps_decision}
-use Rattle.file.specs.declared.Plan.{Plan}
+use Rattle.file.specs.Plan.{Plan}
 use Rattle.file.proofs.Reading.Plans.{RuleByRule}
 use Rattle.file.proofs.Running.Voting.{vote_in, channel_in, events_in}
 use Rattle.file.proofs.Running.BenchIsRun.{coin_bit}

@@ -11,7 +11,7 @@ use Rattle.rules.specs.Heard.{member, size}
 use Rattle.rules.specs.Record.{four_bytes_at}
 use Rattle.rules.proofs.Counting.Below.{count_same}
 use Rattle.rules.proofs.Counting.Counting.{count_within}
-use Rattle.file.specs.declared.Plan.{Plan}
+use Rattle.file.specs.Plan.{Plan}
 use Rattle.file.specs.Table.{rows_in}
 use Rattle.file.specs.Figures.{lost_in, bound_of, good_in}
 use Rattle.file.specs.Vote.{lost_to}

@@ -8,8 +8,7 @@ use lib.ListN.{length, set, drop, length-set, length-drop}
 use lib.Seq.{get_or-set_same, get_or-set_other, get_or-drop, ext_get_or}
 use Rattle.rules.specs.declared.Head.{Head}
 use Rattle.rules.specs.Head.{zero_head}
-use Rattle.file.specs.declared.Plan.{Plan}
-use Rattle.file.specs.Plan.{plan_for}
+use Rattle.file.specs.Plan.{Plan, plan_for}
 use Rattle.file.specs.Table.{head_of, placed, rows_in, coins_in, ticked_in, round_in, rounds_in, start_in, starts_in}
 use Rattle.file.specs.Table.{table_after}
 

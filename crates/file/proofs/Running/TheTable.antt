@@ -18,8 +18,7 @@ use Rattle.rules.specs.Given.{WrittenDecision}
 use Rattle.rules.specs.Run.{head_in, Run}
 use Rattle.rules.proofs.Demands.{no_two_decisions_differ, each_was_proposed, heads_stay_sound}
 use Rattle.rules.proofs.Meaning.Meanings.{means_written}
-use Rattle.file.specs.declared.Plan.{Plan}
-use Rattle.file.specs.Plan.{plan_for}
+use Rattle.file.specs.Plan.{Plan, plan_for}
 use Rattle.file.specs.Table.{head_of, starts_in, rows_in, coins_in, rounds_in, table_after}
 use Rattle.file.specs.Vote.{vote_for, channel_for, events_for, lost_to}
 use Rattle.file.specs.Figures.{lost_in, bound_of, outcome_of, Accepts}

@@ -6,7 +6,7 @@ use Rattle.rules.specs.Heard.{member}
 use Rattle.rules.specs.Record.{four_bytes_at}
 use Rattle.rules.specs.Run.{Vote, Event}
 use Rattle.rules.specs.Round.{Channel}
-use Rattle.file.specs.declared.Plan.{Plan}
+use Rattle.file.specs.Plan.{Plan}
 use Rattle.file.specs.Table.{rows_in, coins_in}
 use Rattle.file.specs.Vote.{ticks_up_to}
 

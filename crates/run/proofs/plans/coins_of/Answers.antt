@@ -9,4 +9,4 @@ returns c =
     let r = c.args.r in
     c.part.ensures ∙ ap (λ (l : List ℕ). take plan.n (drop (r * plan.n) l)) c.part-coins.ensures
     ∙ part_of_part file plan.coins (plan.rounds * plan.n) (r * plan.n) plan.n
-    (omega (arith, round_inside r plan.rounds plan.n c.requires.r_lt_rounds))
+    (omega (arith, round_inside r plan.rounds plan.n c.requires))

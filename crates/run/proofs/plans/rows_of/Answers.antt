@@ -10,4 +10,4 @@ returns c =
     c.part.ensures
     ∙ ap (λ (l : List ℕ). take (plan.n * 4) (drop (r * plan.n * 4) l)) c.part-losses.ensures
     ∙ part_of_part file plan.losses (plan.rounds * plan.n * 4) (r * plan.n * 4) (plan.n * 4)
-    (omega (arith, round_inside r plan.rounds plan.n c.requires.r_lt_rounds))
+    (omega (arith, round_inside r plan.rounds plan.n c.requires))

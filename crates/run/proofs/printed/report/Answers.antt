@@ -1,12 +1,12 @@
 use Rattle.std.proofs.Common.{arith}
-use Rattle.run.proofs.Reports.{few, refusal_is_report, lines_report}
+use Rattle.run.proofs.Reports.{refusal_report, few_heads, figures_report}
 use Rattle.run.proofs.printed.report.Goals as goal
 
-pub returns-then-refused : goal.returns-then-refused
-returns-then-refused c = let all = refusal_is_report _ _ c.run_file-done.ensures c.if-refused.true in cc
+pub returns-in-Err : goal.returns-in-Err
+returns-in-Err c = let all = refusal_report _ _ c.run_file-done.ensures _ c.in-Err.is in cc
 
-pub shared_ref_as_front-heads : goal.shared_ref_as_front-heads
-shared_ref_as_front-heads c = few _ _ c.run_file-done.ensures
+pub returns-in-Ok : goal.returns-in-Ok
+returns-in-Ok c = let all = figures_report _ _ c.run_file-done.ensures _ c.in-Ok.is (omega arith) in cc
 
-pub returns : goal.returns
-returns c = let all = lines_report _ _ c.run_file-done.ensures c.if-refused.false (omega arith) in cc
+pub shared_ref_as_front-push_head_lines : goal.shared_ref_as_front-push_head_lines
+shared_ref_as_front-push_head_lines c = few_heads _ _ c.run_file-done.ensures _ c.in-Ok.is

@@ -1,20 +1,12 @@
-use Rattle.std.proofs.Common.{ℕ, Bool, not, List, ap, ap₂, ◌∙◌}
+use Rattle.std.proofs.Common.{ℕ, not, ap, ◌∙◌}
 use lib.Dec.{eqb}
-use Rattle.file.specs.declared.Section.{Section}
-use Rattle.file.specs.Section.{not_bit, coins_of}
-use Rattle.run.specs.Sections.{counted, checked}
-use Rattle.run.proofs.Checking.{outside_bits, in_order}
+use Rattle.file.specs.Section.{not_bit, coins_of, section_at}
+use Rattle.run.proofs.Pieces.{bit_of}
 use Rattle.run.proofs.sections.coins.Goals as goal
 
 pub returns : goal.returns
 unfolding coins_of
 returns c =
-    let file = c.args.file.now in
-    let at = c.args.at in
     let count = c.args.count in
-    c.checked_bytes.ensures
-    ∙ ap₂ (λ (breaks : List ℕ → ℕ → Bool) (section : Section). checked file 1 breaks section)
-    outside_bits
-    (c.counted.ensures.value
-    ∙ ap (λ (k : ℕ). counted file at (not (eqb k count)) count) c.count_at-read.ensures.value)
-    ∙ in_order file at _ _ 1 not_bit
+    c.section.ensures not_bit (λ body at answer inside r. bit_of body _ at answer r.says.met r.shows)
+    ∙ ap (λ (k : ℕ). section_at c.args.file.now c.args.at (not (eqb k count)) count 1 not_bit) c.count_at-read.ensures

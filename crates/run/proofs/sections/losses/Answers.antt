@@ -1,18 +1,15 @@
-use Rattle.std.proofs.Common.{ℕ, ◌*◌, ap, ◌∙◌}
+use Rattle.std.proofs.Common.{ℕ, ◌*◌, List, not, ap, ◌∙◌}
 use lib.Dec.{ltb}
-use Rattle.file.specs.Section.{not_row, losses_of}
-use Rattle.run.specs.Sections.{counted, checked}
-use Rattle.run.proofs.Checking.{in_order}
+use Rattle.rules.specs.Heard.{within}
+use Rattle.file.specs.Section.{not_row, losses_of, section_at}
+use Rattle.run.proofs.Pieces.{row_of}
 use Rattle.run.proofs.sections.losses.Goals as goal
 
 pub returns : goal.returns
 unfolding losses_of
 returns c =
-    let file = c.args.file.now in
-    let at = c.args.at in
     let n = c.args.n in
-    c.checked_rows.ensures
-    ∙ ap (checked file 4 (not_row n))
-    (c.counted.ensures.value
-    ∙ ap (λ (k : ℕ). counted file at (ltb 256 k) (k * n * 4)) c.count_at-rounds.ensures.value)
-    ∙ in_order file at _ _ 4 (not_row n)
+    c.section.ensures (not_row n) (λ body at answer inside r.
+    r.says.met ∙ ap (λ (piece : List ℕ). not_row n piece 0) r.shows
+    ∙ ap (λ (row : ℕ). not (within n row)) (row_of body at))
+    ∙ ap (λ (k : ℕ). section_at c.args.file.now c.args.at (ltb 256 k) (k * n * 4) 4 (not_row n)) c.count_at-rounds.ensures
