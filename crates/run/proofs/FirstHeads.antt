@@ -8,7 +8,8 @@ use native.Mathlib.Numerals.{add-one}
 use native.Mathlib.Omega.{arith}
 use lib.ListN.{length, get_or, set, take, drop}
 use Rattle.std.specs.List.{count_by}
-use Rattle.std.proofs.lemmas.List.{get_or-map, get_or_append_left, set-append_left, take_all, length-map, length-take-le, take-append-drop}
+use Rattle.std.proofs.lemmas.List.{get_or-map, get_or_append_left, set-append_left}
+use Rattle.std.proofs.lemmas.List.{take_all, length-map, length-take-le, take-append-drop}
 use Rattle.std.proofs.lemmas.List.Sums.{sum_by_more}
 use Rattle.rules.specs.declared.Head.{Head}
 use Rattle.rules.specs.Below.{count}
@@ -19,7 +20,8 @@ use Rattle.rules.specs.Record.{four_bytes_at}
 use Rattle.rules.specs.Round.{received}
 use Rattle.rules.specs.Tick.{tick_of}
 use Rattle.file.specs.Plan.{Plan, plan_of}
-use Rattle.file.specs.Table.{head_of, placed, rows_in, coins_in, ticked_in, round_in, rounds_in, start_in, starts_in, table_after}
+use Rattle.file.specs.Table.{head_of, placed, rows_in, coins_in, ticked_in, round_in, rounds_in, start_in, starts_in}
+use Rattle.file.specs.Table.{table_after}
 use Rattle.file.specs.Figures.{decided_in, outcome_of}
 use Rattle.file.proofs.Running.Placing.{placed_length, placed_rest, rounds_length}
 use Rattle.run.specs.Figures.{outcome_in}
@@ -50,11 +52,13 @@ same_received heads other lost (suc k) same =
 
 -- ---- placing heads
 
-same_placed : (k : ℕ) (f g : ℕ → Head) (table : List Head) → ((s : ℕ) → s < k → f s ≡ g s) → placed k f table ≡ placed k g table
+same_placed : (k : ℕ) (f g : ℕ → Head) (table : List Head) → ((s : ℕ) → s < k → f s ≡ g s)
+    → placed k f table ≡ placed k g table
 unfolding placed
 same_placed zero f g table same = refl
 same_placed (suc k) f g table same =
-    ap₂ (λ (t : List Head) (head : Head). set t k head) (same_placed k f g table (λ s h. same s (omega arith))) (same k (omega arith))
+    ap₂ (λ (t : List Head) (head : Head). set t k head)
+    (same_placed k f g table (λ s h. same s (omega arith))) (same k (omega arith))
 
 placed-append : (k : ℕ) (f : ℕ → Head) (heads rest : List Head) → k ≤ length heads
     → placed k f (heads ++ rest) ≡ placed k f heads ++ rest
@@ -65,7 +69,8 @@ placed-append (suc k) f heads rest h =
     ∙ set-append_left (placed k f heads) rest k (f k) (omega (arith, placed_length k f heads))
 
 -- one more head ticked
-pub one_ticked : (heads so_far : List Head) (sent : List (List ℕ)) (rows coins : List ℕ) (lost coin i : ℕ) (after : Head)
+pub one_ticked : (heads so_far : List Head) (sent : List (List ℕ)) (rows coins : List ℕ) (lost coin i : ℕ)
+    (after : Head)
     → so_far ≡ placed i (ticked_in (length heads) rows coins heads) heads
     → sent ≡ map (λ head. bytes_of (ballot_of head)) heads
     → lost ≡ four_bytes_at rows (i * 4) → coin ≡ get_or coins i 0
@@ -74,8 +79,10 @@ pub one_ticked : (heads so_far : List Head) (sent : List (List ℕ)) (rows coins
 unfolding placed
 one_ticked heads so_far sent rows coins lost coin i after before is_sent is_lost is_coin is =
     let n = length heads in
-    let here : head_of (placed i (ticked_in n rows coins heads) heads) i ≡ head_of heads i = placed_rest i _ heads i (omega arith) in
-    rw (add-one i, is, before, here, is_lost, is_coin, is_sent, length-map, received_is heads (four_bytes_at rows (i * 4)) n (omega arith)) refl
+    let here : head_of (placed i (ticked_in n rows coins heads) heads) i ≡ head_of heads i =
+    placed_rest i _ heads i (omega arith) in
+    let list = received_is heads (four_bytes_at rows (i * 4)) n (omega arith) in
+    rw (add-one i, is, before, here, is_lost, is_coin, is_sent, length-map, list) refl
 
 -- ---- the bench
 
@@ -103,13 +110,15 @@ rounds-append file plan (suc r) heads rest h =
     (omega (arith, rounds_length file plan r heads))
 
 -- the written decisions, counted by index
-decided_is : (heads rest : List Head) (n : ℕ) → n ≤ length heads → decided_in (heads ++ rest) n ≡ count_by is_written (take n heads)
+decided_is : (heads rest : List Head) (n : ℕ) → n ≤ length heads
+    → decided_in (heads ++ rest) n ≡ count_by is_written (take n heads)
 unfolding count
 decided_is heads rest zero h = refl
 decided_is heads rest (suc k) h =
     ap₂ (λ (decided : ℕ) (head : Head). decided + cond (is_written head) 1 0)
     (decided_is heads rest k (omega arith)) (get_or_append_left heads rest zero_head k h)
-    ∙ sym (ap (λ (n : ℕ). count_by is_written (take n heads)) (sym (add-one k)) ∙ sum_by_more (λ (head : Head). cond (is_written head) 1 0) heads k zero_head h)
+    ∙ sym (ap (λ (n : ℕ). count_by is_written (take n heads)) (sym (add-one k))
+    ∙ sum_by_more (λ (head : Head). cond (is_written head) 1 0) heads k zero_head h)
 
 -- the heads are as many as the plan says
 pub heads_are : (file : List ℕ) (table : List Head) (plan : Plan) → plan ≡ plan_of file (length table)
@@ -122,7 +131,8 @@ pub ruleset plans = (planned_fits, heads_are)
 -- the bench: the first heads of the table, as they start and after all rounds
 module _ (file : List ℕ) (table begun last : List Head) (proposals : List ℕ) (plan : Plan) (r : ℕ)
     (is : plan ≡ plan_of file (length table)) (are : proposals ≡ take plan.n (drop 2 file))
-    (starts : begun ≡ placed (length (take plan.n table)) (λ i. (start_of (length (take plan.n table)) i (get_or proposals i 0)).head) (take plan.n table))
+    (starts : begun ≡ placed (length (take plan.n table))
+    (λ i. (start_of (length (take plan.n table)) i (get_or proposals i 0)).head) (take plan.n table))
     (rounds : last ≡ rounds_in file plan r begun) (ends : r ≡ plan.rounds) where
   abbrev heads : List Head
   heads = take plan.n table
@@ -143,17 +153,21 @@ module _ (file : List ℕ) (table begun last : List Head) (proposals : List ℕ)
   many_last : length last ≡ plan.n
   many_last =
       ap length (rounds ∙ ap (rounds_in file plan r) started)
-      ∙ rounds_length file plan r (starts_in file plan.n heads) ∙ placed_length plan.n (start_in file plan.n) heads ∙ many
+      ∙ rounds_length file plan r (starts_in file plan.n heads)
+      ∙ placed_length plan.n (start_in file plan.n) heads ∙ many
 
   -- what the table holds then
   pub table_is : last ++ rest ≡ table_after file table
   unfolding table_after
   table_is =
-      ap (λ (l : List Head). l ++ rest) (rounds ∙ ap₂ (λ (r : ℕ) (t : List Head). rounds_in file plan r t) ends started)
+      ap (λ (l : List Head). l ++ rest)
+      (rounds ∙ ap₂ (λ (r : ℕ) (t : List Head). rounds_in file plan r t) ends started)
       ∙ sym (rounds-append file plan plan.rounds (starts_in file plan.n heads) rest
       (omega (arith, placed_length plan.n (start_in file plan.n) heads, many)))
-      ∙ ap (rounds_in file plan plan.rounds) (sym (placed-append plan.n (start_in file plan.n) heads rest (omega (arith, many))))
-      ∙ ap (λ (t : List Head). rounds_in file plan plan.rounds (starts_in file plan.n t)) (take-append-drop plan.n table)
+      ∙ ap (rounds_in file plan plan.rounds)
+      (sym (placed-append plan.n (start_in file plan.n) heads rest (omega (arith, many))))
+      ∙ ap (λ (t : List Head). rounds_in file plan plan.rounds (starts_in file plan.n t))
+      (take-append-drop plan.n table)
       ∙ ap (λ (p : Plan). rounds_in file p p.rounds (starts_in file p.n table)) is
 
   -- and the answer

@@ -1,11 +1,11 @@
--- Parts of a list of bytes: what a clamped part holds.
-use Prim.Native.Nat.{ℕ, zero, suc, ◌+◌, ◌-◌, ◌*◌, ◌≤◌, ◌<◌}
-use mathlib.Core.Path.{◌≡◌, refl, sym, ap, ap₂, ◌∙◌}
-use mathlib.Core.List.{List, [], ◌∷◌, ◌++◌, append_assoc}
+-- Parts of a list of bytes, and parts of those.
+use Prim.Native.Nat.{ℕ, zero, suc, ◌+◌, ◌*◌, ◌≤◌, ◌<◌}
+use mathlib.Core.Path.{◌≡◌, refl, ap, ◌∙◌}
+use mathlib.Core.List.{List, [], ◌∷◌}
 use native.Mathlib.Nat.{suc-mul, mul-le-mul_right}
 use native.Mathlib.Omega.{arith}
-use lib.ListN.{length, get_or, take, drop, set}
-use lib.Seq.{get_or-take, get_or-drop, take-take, drop-drop, drop-cons, take-append_seam, take-set-le, drop-set-add, drop-set-lt, take-add, drop_at, sets, sets-eq, length-take-le}
+use lib.ListN.{get_or, take, drop}
+use lib.Seq.{get_or-take, get_or-drop, take-take, drop-drop}
 
 -- a byte of a part
 pub byte_of_part : (xs : List ℕ) (start size i : ℕ) → i < size → get_or (take size (drop start xs)) i 0 ≡ get_or xs (start + i) 0

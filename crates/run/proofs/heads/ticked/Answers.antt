@@ -14,7 +14,8 @@ module _ (sent list : List (List ℕ)) (lost s count : ℕ) (room : count < leng
     (so_far : flat_map (λ ballot. ballot) (take count list) ≡ received_from sent lost s) where
   -- after sender s, by its digit in the row
   one_more : (digit : ℕ) → digit < 2 → digit ≡ lost / 2 ^ s % 2
-      → flat_map (λ ballot. ballot) (take (count + bool_byte (eqb digit 0)) (set list count (get_or sent s []))) ≡ received_from sent lost (s + 1)
+      → flat_map (λ ballot. ballot) (take (count + bool_byte (eqb digit 0)) (set list count (get_or sent s [])))
+      ≡ received_from sent lost (s + 1)
   one_more zero low is =
       rw (add-one s, ← is, take_more_set list count (get_or sent s []) room)
       (sym (flat_map_more (λ (ballot : List ℕ). ballot) [] (take count list) (get_or sent s []))
