@@ -4,7 +4,6 @@ use Prim.Native.Nat.{ℕ, zero, suc, ◌+◌, ◌*◌, ◌≤◌, ◌<◌}
 use mathlib.Core.Path.{◌≡◌, refl, sym, ap, ap₂, ◌∙◌}
 use mathlib.Core.List.{List, [], ◌∷◌, ◌++◌, map}
 use mathlib.Core.Bool.{Bool, cond}
-use Rattle.std.proofs.Common.{add-zero}
 use native.Mathlib.Numerals.{add-one}
 use native.Mathlib.Omega.{arith}
 use lib.ListN.{length, get_or, set, take, drop}
@@ -125,7 +124,7 @@ rounds-append file plan (suc r) heads rest h =
 
 -- what a head adds to the code's count
 pub decision_counts : (h : Head) → count_by is_written (h ∷ []) ≡ cond (is_written h) 1 0
-decision_counts h = add-zero (cond (is_written h) 1 0)
+decision_counts h = omega arith
 
 -- the first k heads of a table
 abbrev pub heads_to : ℕ → List Head → List Head
