@@ -7,7 +7,7 @@
 // Numbers are 4 bytes, a length is one byte. `bytes` and `lent` are the same bytes twice: a call
 // writes to a part of `lent` while it reads a part of `bytes`. Each is tested for its length, so
 // that no contract has to say that they are the same.
-use crate::number::{byte_at, number_at};
+use crate::number::number_at;
 use crate::print::{malformed, print_answer, print_indexed};
 use std::io::{Print, Result};
 
@@ -25,7 +25,7 @@ pub(crate) fn answer_vote_start(out: &impl Print, bytes: &[u8], lent: &mut [u8])
 }
 
 pub(crate) fn answer_vote_tick(out: &impl Print, bytes: &[u8], lent: &mut [u8]) -> Result<()> {
-    let record_end = 1 + byte_at(bytes, 0) as usize;
+    let record_end = 1 + usize::from(*bytes.first().unwrap_or(&0));
     let list_start = record_end + 4;
     if bytes.len() < list_start {
         return malformed(out, b't');
@@ -42,7 +42,7 @@ pub(crate) fn answer_vote_tick(out: &impl Print, bytes: &[u8], lent: &mut [u8]) 
 }
 
 pub(crate) fn answer_vote_ballot(out: &impl Print, bytes: &[u8], lent: &mut [u8]) -> Result<()> {
-    let record_end = 1 + byte_at(bytes, 0) as usize;
+    let record_end = 1 + usize::from(*bytes.first().unwrap_or(&0));
     if bytes.len() < record_end {
         return malformed(out, b'b');
     }

@@ -1,10 +1,5 @@
 // The numbers in a vector.
 
-// The byte at an index, and 0 past the end: the `get` of two calls, named.
-pub(crate) fn byte_at(bytes: &[u8], at: usize) -> u8 {
-    bytes.get(at).copied().unwrap_or(0)
-}
-
 // The number in four bytes from an index on, high byte first, and 0 where they pass the end.
 pub(crate) fn number_at(bytes: &[u8], at: usize) -> u32 {
     match bytes.get(at..).and_then(|rest| rest.first_chunk::<4>()) {

@@ -1,5 +1,5 @@
 // A whole run file: its sections one after the other.
-ghost use Rattle.std.specs.Prelude.{◌≡◌, ◌<◌};
+ghost use Rattle.std.specs.Prelude.{◌≡◌, ◌<◌, ◌+◌, ◌*◌, ◌^◌, take, drop};
 ghost use Rattle.file.specs.Plan.{accepted_plan, plan_read, plan_of};
 ghost use Rattle.file.specs.Table.{rows_in, coins_in};
 
@@ -46,8 +46,7 @@ pub(crate) fn rows_of(file: &[u8], plan: Plan, r: usize) -> &[u8]
     requires { r < plan.rounds }
     ensures { result.now ≡ rows_in file.now (accepted_plan plan) r }
 {
-    let losses = part(file, plan.losses, plan.rounds * plan.n * SET_BYTES);
-    part(losses, r * plan.n * SET_BYTES, plan.n * SET_BYTES)
+    of_round(file, plan.losses, plan.rounds, plan.n * SET_BYTES, r)
 }
 
 // The coins of one round: a part of section 4's.
@@ -55,6 +54,15 @@ pub(crate) fn coins_of(file: &[u8], plan: Plan, r: usize) -> &[u8]
     requires { r < plan.rounds }
     ensures { result.now ≡ coins_in file.now (accepted_plan plan) r }
 {
-    let coins = part(file, plan.coins, plan.rounds * plan.n);
-    part(coins, r * plan.n, plan.n)
+    of_round(file, plan.coins, plan.rounds, plan.n, r)
+}
+
+// One round's part of a section's, in which each round has so many bytes.
+fn of_round(file: &[u8], start: usize, rounds: usize, size: usize, r: usize) -> &[u8]
+    requires is_round { r < rounds }
+    requires fits { rounds * size < 2 ^ 64 }
+    ensures { result.now ≡ take size (drop (start + r * size) file.now) }
+{
+    let all = part(file, start, rounds * size);
+    part(all, r * size, size)
 }

@@ -1,13 +1,9 @@
-use Rattle.std.proofs.Common.{ℕ, ◌*◌, List, take, drop, ap, ◌∙◌, arith}
-use Rattle.run.proofs.Parts.{part_of_part, round_inside}
+use Rattle.std.proofs.Common.{ℕ, ◌+◌, ◌*◌, take, drop, sym, ap, ◌∙◌}
+use Rattle.std.proofs.Math.Nat.{mul_assoc}
 use Rattle.run.proofs.plans.rows_of.Goals as goal
 
 pub returns : goal.returns
 returns c =
-    let file = c.args.file.now in
     let plan = c.args.plan in
-    let r = c.args.r in
-    c.part.ensures
-    ∙ ap (λ (l : List ℕ). take (plan.n * 4) (drop (r * plan.n * 4) l)) c.part-losses.ensures
-    ∙ part_of_part file plan.losses (plan.rounds * plan.n * 4) (r * plan.n * 4) (plan.n * 4)
-    (omega (arith, round_inside r plan.rounds plan.n c.requires))
+    c.of_round.ensures
+    ∙ ap (λ (k : ℕ). take (plan.n * 4) (drop (plan.losses + k) c.args.file.now)) (sym (mul_assoc c.args.r plan.n 4))
