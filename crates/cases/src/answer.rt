@@ -16,7 +16,8 @@ use std::io::{Print, Result};
 // Where the list of a tick begins: after the head and the coin.
 const LIST_START: usize = RECORD_BYTES + 4;
 
-// Calls what the letter stands for and prints the answer. `lent` is the same bytes a second time.
+// Calls what the letter stands for and prints the answer. `lent` is the same bytes a second time. A
+// `match` is no longer than a table of letters and functions, and says which call each has.
 pub(crate) fn answer(out: &impl Print, letter: u8, bytes: &[u8], lent: &mut [u8]) -> Result<()> {
     match letter {
         b'R' => answer_read(out, bytes),

@@ -12,6 +12,7 @@ pub(crate) fn answer_line(out: &impl Print, line: &[u8]) -> Result<()> {
     if letter == b'#' {
         return Ok(());
     }
+    // No heap: more than any vector has.
     let mut bytes = [0u8; 700];
     match unhex(text, &mut bytes) {
         Some(digits) if digits % 2 == 0 && digits <= 1400 => {

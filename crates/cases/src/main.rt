@@ -23,7 +23,8 @@ fn main(rt: HostRuntime) -> Result<()> {
     answer_lines(&rt, &file[..count])
 }
 
-// Reads until the buffer is full, the input ends or a read fails, and gives the number of bytes.
+// Reads until the buffer is full, the input ends or a read fails, and gives the number of bytes. The
+// library's loops give no number where a read fails, and what was read before is still answered.
 fn read_full(mut stdin: Stdin, buffer: &mut [u8]) -> usize
     ensures { result ≤ length buffer.new }
 {
@@ -37,6 +38,7 @@ fn read_full(mut stdin: Stdin, buffer: &mut [u8]) -> usize
     done
 }
 
+// A `while`: the check does not cover a `for` over `split`, whose closure is its own type.
 fn answer_lines(out: &impl Print, text: &[u8]) -> Result<()> {
     let mut rest = text;
     while !rest.is_empty() {

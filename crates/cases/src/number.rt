@@ -1,6 +1,6 @@
 // The numbers in a vector.
 
-// The byte at an index, and 0 past the end.
+// The byte at an index, and 0 past the end: the `get` of two calls, named.
 pub(crate) fn byte_at(bytes: &[u8], at: usize) -> u8 {
     bytes.get(at).copied().unwrap_or(0)
 }

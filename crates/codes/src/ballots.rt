@@ -1,5 +1,6 @@
 // A ballot's bytes, both ways: "Five bytes: sender; value 0, 1 or 2 (blank); status 0 or 1 (decided);
-// phase, high byte first."
+// phase, high byte first." Functions, as in `records`, and no `From`: an impl of it would have to stand
+// with the types, in `rules`, and the layouts stand here alone.
 ghost use Rattle.std.specs.Prelude.{◌≡◌, cond, ltb};
 ghost use Rattle.rules.specs.Ballot.{bytes_of, ballot_at, zero_ballot};
 ghost use Rattle.rules.specs.Tick.{ballots as ballots_of};

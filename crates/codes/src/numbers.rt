@@ -1,4 +1,5 @@
-// Numbers of more than one byte, high byte first.
+// Numbers of more than one byte, high byte first. The library's functions under names that
+// docs/promises has, so that a clause says which order is meant.
 ghost use Rattle.std.specs.Prelude.{◌≡◌, ◌+◌, ◌*◌};
 
 // A phase from its two bytes.

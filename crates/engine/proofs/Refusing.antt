@@ -7,7 +7,7 @@ use native.Mathlib.Decide.{dec_lt}
 use native.Mathlib.Omega.{arith}
 use lib.Dec.{ltb, eqb}
 use lib.ListN.{get_or}
-use borrow.Author.Tests.{eq-eqb, ne_eqb, eqb-true, lt-ltb, le-ltb, ltb-true, not-false}
+use borrow.Author.Tests.{ne_eqb, lt-ltb, le-ltb, ltb-true, not-false}
 use Rattle.rules.specs.declared.Value.{Value}
 use Rattle.rules.specs.declared.Value.TheVariants.{Zero, One, Blank}
 use Rattle.rules.specs.declared.Status.{Status}
@@ -174,17 +174,13 @@ module _ (h : Head) (l : List ℕ) (i : ℕ) where
     test : t ≡ is_within h.n codes statuses l i
     test = within ∙ same_bounds at h.n codes statuses
 
-    pub test_passed : not (eqb x p && t) ≡ false → ((ballot_at l i).phase ≡ p) × (breaks_rule h.n l i ≡ false)
-    test_passed e =
-        let both = not-false _ e in
-        let here : (ballot_at l i).phase ≡ p = sym phase ∙ eqb-true x p (and_left (eqb x p) t both) in
-        (here, breaks_bounds h.n l i p codes statuses here c d ∙ ap not (sym test ∙ and_right (eqb x p) t both))
+    pub test_passed : x ≡ p → t ≡ true → ((ballot_at l i).phase ≡ p) × (breaks_rule h.n l i ≡ false)
+    test_passed e b =
+        let here : (ballot_at l i).phase ≡ p = sym phase ∙ e in
+        (here, breaks_bounds h.n l i p codes statuses here c d ∙ ap not (sym test ∙ b))
 
-    pub test_failed : not (eqb x p && t) ≡ true → (ballot_at l i).phase ≡ p → refused h l i ≡ true
-    test_failed e here =
-        sym
-        (refused_breaks
-        (breaks_bounds h.n l i p codes statuses here c d ∙ ap not (sym test) ∙ sym (ap (λ (b : Bool). not (b && t)) (eq-eqb x p (phase ∙ here))) ∙ e))
+    pub test_failed : t ≡ false → (ballot_at l i).phase ≡ p → refused h l i ≡ true
+    test_failed e here = sym (refused_breaks (breaks_bounds h.n l i p codes statuses here c d ∙ ap not (sym test ∙ e)))
 
   -- 7 or 8
   pub refused_parts : breaks_rule h.n l i ≡ false → earlier || otherwise ≡ refused h l i

@@ -91,7 +91,7 @@ impl Look {
         ];
         for i in self.next..fives.len() {
             let five = &fives[i];
-            if !((phase_in(five) == self.phase) & stands(head.n, bounds, five)) {
+            if phase_in(five) != self.phase || !stands(head.n, bounds, five) {
                 return self.with_said(i, listed, said);
             }
             let sender = sender_in(five);

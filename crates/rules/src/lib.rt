@@ -21,7 +21,7 @@ pub enum Status {
     Decided,
 }
 
-// "decision (none, 0 or 1)"
+// "decision (none, 0 or 1)". No plainer as an `Option`: its 0 and 1 would be a second enum beside `Value`.
 #[derive(Clone, Copy, Debug, PartialEq, Eq)]
 pub enum Decision {
     Zero,

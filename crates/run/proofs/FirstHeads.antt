@@ -2,15 +2,16 @@
 -- behind them stay as they are.
 use Prim.Native.Nat.{ℕ, zero, suc, ◌+◌, ◌*◌, ◌≤◌, ◌<◌}
 use mathlib.Core.Path.{◌≡◌, refl, sym, ap, ap₂, ◌∙◌}
-use mathlib.Core.List.{List, [], ◌++◌, map}
+use mathlib.Core.List.{List, [], ◌∷◌, ◌++◌, map}
 use mathlib.Core.Bool.{Bool, cond}
 use native.Mathlib.Numerals.{add-one}
 use native.Mathlib.Omega.{arith}
 use lib.ListN.{length, get_or, set, take, drop}
 use Rattle.std.specs.List.{count_by}
-use Rattle.std.proofs.lemmas.List.{get_or-map, get_or_append_left, set-append_left}
+use Rattle.std.proofs.lemmas.List.{take_more, get_or-map, get_or_append_left, set-append_left}
 use Rattle.std.proofs.lemmas.List.{take_all, length-map, length-take-le, take-append-drop}
-use Rattle.std.proofs.lemmas.List.Sums.{sum_by_more}
+use Rattle.std.proofs.lemmas.List.Sums.{sum_by-append}
+use Rattle.rules.proofs.Counting.Below.{count_le}
 use Rattle.rules.specs.declared.Head.{Head}
 use Rattle.rules.specs.Below.{count}
 use Rattle.rules.specs.Ballot.{bytes_of}
@@ -84,6 +85,16 @@ one_ticked heads so_far sent rows coins lost coin i after before is_sent is_lost
     let list = received_is heads (four_bytes_at rows (i * 4)) n (omega arith) in
     rw (add-one i, is, before, here, is_lost, is_coin, is_sent, length-map, list) refl
 
+-- a round of the code is a round of document 01
+pub round_is : (rows coins : List ℕ) (heads : List Head)
+    → placed (length heads) (λ i. (tick_of (head_of heads i) (received_from (map sent_by heads) (four_bytes_at rows (i * 4)) (length heads)) (get_or coins i 0)).head) heads
+    ≡ round_in (length heads) rows coins heads
+unfolding round_in
+round_is rows coins heads =
+    same_placed (length heads) _ (ticked_in (length heads) rows coins heads) heads
+    (λ s h. ap (λ (list : List ℕ). (tick_of (head_of heads s) list (get_or coins s 0)).head)
+    (received_is heads (four_bytes_at rows (s * 4)) (length heads) (omega arith)))
+
 -- ---- the bench
 
 round-append : (n : ℕ) (rows coins : List ℕ) (heads rest : List Head) → n ≤ length heads
@@ -109,16 +120,37 @@ rounds-append file plan (suc r) heads rest h =
     ∙ round-append plan.n (rows_in file plan r) (coins_in file plan r) (rounds_in file plan r heads) rest
     (omega (arith, rounds_length file plan r heads))
 
--- the written decisions, counted by index
+-- ---- the written decisions
+
+-- what a head adds to the code's count
+pub decision_counts : (h : Head) → count_by is_written (h ∷ []) ≡ cond (is_written h) 1 0
+decision_counts h = omega arith
+
+-- the first k heads of a table
+abbrev pub heads_to : ℕ → List Head → List Head
+heads_to zero table = []
+heads_to (suc k) table = heads_to k table ++ head_of table k ∷ []
+
+pub survey_counts : (n : ℕ) (table : List Head) → count_by is_written (heads_to n table) ≡ decided_in table n
+unfolding count
+survey_counts zero table = refl
+survey_counts (suc k) table =
+    sum_by-append (λ (h : Head). cond (is_written h) 1 0) (heads_to k table) (head_of table k ∷ [])
+    ∙ ap₂ (λ (a b : ℕ). a + b) (survey_counts k table) (decision_counts (head_of table k))
+
+pub survey_decided : (k : ℕ) (table : List Head) → count_by is_written (heads_to k table) ≤ k
+survey_decided k table = omega (arith, survey_counts k table, count_le k (λ s. is_written (head_of table s)))
+
+heads_to_are : (heads rest : List Head) (n : ℕ) → n ≤ length heads → heads_to n (heads ++ rest) ≡ take n heads
+heads_to_are heads rest zero h = refl
+heads_to_are heads rest (suc k) h =
+    ap₂ (λ (l : List Head) (x : Head). l ++ x ∷ []) (heads_to_are heads rest k (omega arith)) (get_or_append_left heads rest zero_head k h)
+    ∙ sym (ap (λ (n : ℕ). take n heads) (sym (add-one k)) ∙ take_more heads k zero_head h)
+
 decided_is : (heads rest : List Head) (n : ℕ) → n ≤ length heads
     → decided_in (heads ++ rest) n ≡ count_by is_written (take n heads)
-unfolding count
-decided_is heads rest zero h = refl
-decided_is heads rest (suc k) h =
-    ap₂ (λ (decided : ℕ) (head : Head). decided + cond (is_written head) 1 0)
-    (decided_is heads rest k (omega arith)) (get_or_append_left heads rest zero_head k h)
-    ∙ sym (ap (λ (n : ℕ). count_by is_written (take n heads)) (sym (add-one k))
-    ∙ sum_by_more (λ (head : Head). cond (is_written head) 1 0) heads k zero_head h)
+decided_is heads rest n h =
+    sym (survey_counts n (heads ++ rest)) ∙ ap (count_by is_written) (heads_to_are heads rest n h)
 
 -- the heads are as many as the plan says
 pub heads_are : (file : List ℕ) (table : List Head) (plan : Plan) → plan ≡ plan_of file (length table)

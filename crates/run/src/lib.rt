@@ -13,6 +13,7 @@ mod printed;
 mod sections;
 mod table;
 mod text;
+mod words;
 
 pub use printed::report;
 pub use table::{bench, run_file};

@@ -1,13 +1,12 @@
 // The lines of a report, each added to a text.
 ghost use Rattle.std.specs.Prelude.{◌≡◌, length, Ok, Err};
 ghost use Rattle.file.specs.Figures.{outcome_read};
-ghost use Rattle.file.specs.Report.{value_word, status_word, decision_word};
 ghost use Rattle.file.specs.Report.{first_line, head_line, head_lines, last_line, refusal_line};
 ghost use Rattle.run.specs.Writing.{with_word};
 
 use crate::text::Text;
 use file::{Figures, Refusal};
-use rules::{Decision, Head, Status, Value};
+use rules::Head;
 
 #[tactic(auto, using(crate::proofs::Texts::word_word), unfolding(crate::proofs::Texts::writing))]
 impl Text {
@@ -51,42 +50,9 @@ impl Text {
     {
         self.push_figure(b"head ", s);
         self.push_figure(b" phase ", head.phase as usize);
-        self.push(b" value ");
-        self.push(value_word(head.value));
-        self.push(b" status ");
-        self.push(status_word(head.status));
-        self.push(b" decision ");
-        self.push(decision_word(head.decision));
+        self.push_word(b" value ", head.value);
+        self.push_word(b" status ", head.status);
+        self.push_word(b" decision ", head.decision);
         self.push(b"\n");
-    }
-}
-
-// Words, and no `Display`: `write!` tells what it has written only on `Ok`, and `report` cannot fail.
-fn value_word(value: Value) -> &'static [u8]
-    ensures { result.now ≡ value_word value }
-{
-    match value {
-        Value::Zero => b"0",
-        Value::One => b"1",
-        Value::Blank => b"blank",
-    }
-}
-
-fn status_word(status: Status) -> &'static [u8]
-    ensures { result.now ≡ status_word status }
-{
-    match status {
-        Status::Undecided => b"undecided",
-        Status::Decided => b"decided",
-    }
-}
-
-fn decision_word(decision: Decision) -> &'static [u8]
-    ensures { result.now ≡ decision_word decision }
-{
-    match decision {
-        Decision::Zero => b"0",
-        Decision::One => b"1",
-        Decision::Unwritten => b"none",
     }
 }

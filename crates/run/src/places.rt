@@ -1,5 +1,5 @@
 // Parts of bytes, and single bytes of them.
-ghost use Rattle.std.specs.Prelude.{◌≡◌, ◌≤◌, min, get_or, take, drop};
+ghost use Rattle.std.specs.Prelude.{◌≡◌, get_or, take, drop};
 
 // The part of the bytes that stands at an accepted start, of an accepted length; an empty one where the
 // length is 0, as at a refusal. Where there are fewer bytes, as many as there are.
@@ -15,12 +15,4 @@ pub(crate) fn byte_at(bytes: &[u8], place: usize) -> u8
     ensures { result ≡ get_or bytes.now place 0 }
 {
     bytes.get(place).copied().unwrap_or(0)
-}
-
-// The lesser of two numbers.
-pub(crate) fn least(a: usize, b: usize) -> usize
-    ensures value { result ≡ min a b }
-    ensures upper_bound { result ≤ b }
-{
-    if a < b { a } else { b }
 }

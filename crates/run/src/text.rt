@@ -3,6 +3,7 @@ ghost use Rattle.std.specs.Prelude.{◌≡◌, [], ◌++◌};
 ghost use Rattle.file.specs.Report.{decimal};
 ghost use Rattle.run.specs.Writing.{with_word};
 
+use crate::words::Word;
 use std::marker::Model;
 
 const BYTES_MOST: usize = 4096;
@@ -64,6 +65,15 @@ impl Text {
     {
         self.push(word);
         self.push_number(number);
+    }
+
+    // A word, and after it the word of what prints as one.
+    #[tactic(auto, using(crate::proofs::Texts::word_word))]
+    pub(crate) fn push_word<W: Word>(&mut self, name: &[u8], value: W)
+        ensures { self.new ≡ with_word self.old (name.now ++ W.word_of value) }
+    {
+        self.push(name);
+        self.push(value.word());
     }
 
     // The number's decimal digits, and no fewer than one.

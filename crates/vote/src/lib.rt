@@ -1,5 +1,5 @@
 // The entries for C, on records of 20 bytes, around the engine by value. `vote_c` exports them;
-// nothing else of the library is public.
+// nothing else of the library is public. They answer numbers, and take slices of any length: C calls.
 #![tactic(auto)]
 
 ghost use Rattle.std.specs.Prelude.{◌≡◌, length, replicate, IfOk, OnOk, OnErr};

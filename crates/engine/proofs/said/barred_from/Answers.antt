@@ -5,14 +5,14 @@ use Rattle.engine.proofs.Looking.{five}
 use Rattle.engine.proofs.Barred.{barred_ahead, barred_here, not_zero, not_one, not_blank}
 use Rattle.engine.proofs.said.barred_from.Goals as goal
 
-pub returns-then-phase-head-clause-by_index : goal.returns-then-phase-head-clause-by_index
-returns-then-phase-head-clause-by_index c =
+pub returns-then-phase-head : goal.returns-then-phase-head
+returns-then-phase-head c =
     let each = barred_ahead _ _ _ c.alone-own.ensures c.requires.phase_le_phase c.if-phase-head.true in
     five _ (each 0) (each 1) (each 2) (each 3) (each 4)
 
-pub returns-clause-by_index : goal.returns-clause-by_index
+pub returns : goal.returns
 unfolding value_of status_of
-returns-clause-by_index c =
+returns c =
     let here = c.if-phase-head.false in
     let codes = c.code_of-code.ensures ∙ ap₂ (λ (v t : ℕ). v * 2 + t) c.code.ensures c.code-2.ensures in
     five _
