@@ -3,13 +3,12 @@
 import os
 import re
 
-from sources import functions
+from sources import crate_of, public
 
 
 def answer_faults(texts, theorems):
     return ["%s: of %s no theorem says that no second answer fits" % (path, function.called())
-            for path, text in sorted(texts.items()) for function in functions(text)
-            if not function.declared() and not theorem_of(function, path, theorems)]
+            for path, function in public(texts) if not function.declared() and not theorem_of(function, path, theorems)]
 
 
 def only_theorems(texts):
@@ -21,10 +20,6 @@ def only_theorems(texts):
             with open(path) as file:
                 found[crate] = re.sub(r'--[^\n]*', '', file.read())
     return found
-
-
-def crate_of(path):
-    return path.split("/")[1]
 
 
 def theorem_of(function, path, theorems):

@@ -3,7 +3,8 @@
     python3 tests/promises/contracts.py
 
 Public is what other crates of crates.txt can call: what says `pub fn` or `pub extern "C" fn`, methods too, what a
-public trait declares, and what an `impl` of a trait has.  So it is in `vote` and in `vote_c` too.
+public trait declares, and what an `impl` of a trait has, unless the trait is the crate's own.  So it is in `vote` and
+in `vote_c` too.
 
 - Each has an `ensures` and no `requires`: with one, the gate would still prove all, and a caller that breaks it would
   be promised nothing.  In an `impl` of a trait of ours it is the trait's; of another trait the `impl` says by
@@ -24,13 +25,12 @@ sys.dont_write_bytecode = True
 
 from answers import answer_faults, only_theorems, with_one_answer, without_theorem
 from header import header_faults, header_with_errors
-from sources import blocks, functions, gives, sources, with_requires, without_ensures, without_export, without_gives
+from sources import blocks, gives, public, sources, with_requires, without_ensures, without_export, without_gives
 
 
 def contract_faults(texts):
     ours = {block.trait for text in texts.values() for block in blocks(text) if block.declares}
-    return [said for path, text in sorted(texts.items()) for function in functions(text)
-            for said in clause_faults(path, text, function, ours)]
+    return [said for path, function in public(texts) for said in clause_faults(path, texts[path], function, ours)]
 
 
 def clause_faults(path, text, function, ours):
@@ -46,12 +46,11 @@ def clause_faults(path, text, function, ours):
 def tried(texts, theorems, header):
     """How many errors were put in, and those that were not found."""
     count, missed = 0, []
-    for path, text in sorted(texts.items()):
-        for function in functions(text):
-            for what, is_found in errors_of(path, text, function, texts, theorems, header):
-                count += 1
-                if not is_found:
-                    missed.append("%s: %s %s is not found" % (path, function.called(), what))
+    for path, function in public(texts):
+        for what, is_found in errors_of(path, texts[path], function, texts, theorems, header):
+            count += 1
+            if not is_found:
+                missed.append("%s: %s %s is not found" % (path, function.called(), what))
     for what, edited in header_with_errors(header):
         count += 1
         if edited == header or not header_faults(edited, texts):
@@ -86,10 +85,9 @@ def main():
     count, missed = (0, []) if faults else tried(texts, theorems, header)
     for fault in faults + missed:
         print(fault)
-    public = sum(len(functions(text)) for text in texts.values())
     print("promises: %d public functions, %d faults; %d errors put in, %d not found"
-          % (public, len(faults), count, len(missed)))
-    return 1 if faults or missed or not public else 0
+          % (len(public(texts)), len(faults), count, len(missed)))
+    return 1 if faults or missed or not count else 0
 
 
 if __name__ == "__main__":

@@ -7,6 +7,7 @@ from typing import NamedTuple
 
 FUNCTION = re.compile(r'((?:^[ \t]*#\[[^\n]*\]\n)*)^[ \t]*(pub )?(?:(?:const|unsafe) )*(extern "C" )?fn (\w+)', re.M)
 BLOCK = re.compile(r'^(?:(impl)\b(?:<[^>]*>)?|pub trait)[ \n]+([^{]*?)\s*\{', re.M)
+OWN_TRAIT = re.compile(r'^(?:pub\([^)]*\) )?trait (\w+)', re.M)      # of its crate alone
 CLAUSE = re.compile(r'\b(requires|ensures)\*?(\s+\w+)?\s*$')     # some have names
 EXPORT = "#[unsafe(no_mangle)]"
 
@@ -58,8 +59,19 @@ def without_comments(text):
     return re.sub(r'//[^\n]*', '', text)
 
 
+def public(texts):
+    """What other crates can call, with its path: the `impl` of a crate's own trait has nothing of it."""
+    own = {(crate_of(path), trait) for path, text in texts.items() for trait in OWN_TRAIT.findall(text)}
+    return [(path, function) for path, text in sorted(texts.items()) for function in functions(text)
+            if not function.block or (crate_of(path), function.block.trait) not in own]
+
+
+def crate_of(path):
+    return path.split("/")[1]
+
+
 def functions(text):
-    """What other crates can call: what says `pub`, and what a public trait or the `impl` of a trait has."""
+    """What says `pub`, and what a public trait or the `impl` of a trait has."""
     found = []
     for function in FUNCTION.finditer(text):
         block = next((b for b in blocks(text) if b.start < function.start() < b.end), None)
