@@ -5,10 +5,20 @@ import re
 
 from sources import crate_of, public
 
+CONTENTS = re.compile(r" × \(s[\w.]+ ≡ s'[\w.]+\)")
+
 
 def answer_faults(texts, theorems):
-    return ["%s: of %s no theorem says that no second answer fits" % (path, function.called())
-            for path, function in public(texts) if not function.declared() and not theorem_of(function, path, theorems)]
+    return [said for path, function in public(texts) if not function.declared()
+            for said in theorem_faults(path, function, theorem_of(function, path, theorems))]
+
+
+def theorem_faults(path, function, theorem):
+    """One equation of the answers, and one of the contents of each slice or number that is lent by `&mut`."""
+    if not theorem:
+        yield "%s: of %s no theorem says that no second answer fits" % (path, function.called())
+    elif len(CONTENTS.findall(theorem.group())) < function.types.count("&mut "):
+        yield "%s: of %s no theorem says that no second contents fit" % (path, function.called())
 
 
 def only_theorems(texts):
@@ -53,4 +63,11 @@ def with_one_answer(function, path, theorems):
     found = theorem_of(function, path, theorems)
     text = theorems[crate_of(path)]
     return {**theorems, crate_of(path): text[:found.start()] + found.group().replace("κs a r' s'", "κs a r s")
+            + text[found.end():]}
+
+
+def without_contents(function, path, theorems):
+    found = theorem_of(function, path, theorems)
+    text = theorems[crate_of(path)]
+    return {**theorems, crate_of(path): text[:found.start()] + CONTENTS.sub("", found.group(), count=1)
             + text[found.end():]}

@@ -9,12 +9,13 @@ in `vote_c` too.
 - Each has an `ensures` and no `requires`: with one, the gate would still prove all, and a caller that breaks it would
   be promised nothing.  In an `impl` of a trait of ours it is the trait's; of another trait the `impl` says by
   `ghost NAME_gives` what its function gives.
-- Of each that has a body, a theorem in proofs/Only.antt of its crate says that no second answer fits its promise.
+- Of each that has a body, a theorem in proofs/Only.antt of its crate says that no second answer fits its promise, and
+  no second contents of what is lent by `&mut`.
 - include/vote.h declares the functions that are exported, with their types, and has each number of the tables in
   crates/rules/specs/Given.antt with the words that are quoted there.
 
 Each time, every function is tried with a `requires` put in, without what it promises, and without its theorem or with
-one about a single answer; every entry without the attribute that exports it; and the header with an entry, a type, a
+one that says less; every entry without the attribute that exports it; and the header with an entry, a type, a
 number and a word changed: what is not found then is a failure too.
 """
 
@@ -23,7 +24,7 @@ import sys
 
 sys.dont_write_bytecode = True
 
-from answers import answer_faults, only_theorems, with_one_answer, without_theorem
+from answers import answer_faults, only_theorems, with_one_answer, without_contents, without_theorem
 from header import header_faults, header_with_errors
 from sources import blocks, gives, public, sources, with_requires, without_ensures, without_export, without_gives
 
@@ -71,6 +72,9 @@ def errors_of(path, text, function, texts, theorems, header):
     if not function.declared():
         yield "with no theorem", bool(answer_faults(texts, without_theorem(function, path, theorems)))
         yield "with a theorem about one answer", bool(answer_faults(texts, with_one_answer(function, path, theorems)))
+    if "&mut " in function.types:
+        yield "with a theorem about the answer alone", bool(
+            answer_faults(texts, without_contents(function, path, theorems)))
     if function.exported:
         yield "under another symbol", bool(header_faults(header, {**texts, path: without_export(text, function)}))
 
