@@ -1,6 +1,6 @@
 // One look at a list of ballots, up to the first that is refused by 6, 7 or 8. So one sender says one
 // thing at a phase in all that was looked at, and sets of senders tell whether the next one differs.
-ghost use Rattle.std.specs.Prelude.{◌≡◌, true, false, cond, ◌&&◌, ◌||◌, not, ℕ, ◌<◌, eqb};
+ghost use Rattle.std.specs.Prelude.{◌≡◌, false, ◌&&◌, ◌||◌, not, ℕ, ◌<◌, eqb};
 ghost use Rattle.rules.specs.Below.{first};
 ghost use Rattle.rules.specs.Ballot.{ballot_at, breaks_rule};
 ghost use Rattle.rules.specs.Heard.{member as member_of};

@@ -1,5 +1,5 @@
 // What one ballot of a list says, its value and status in one number; and sets of those who say it.
-ghost use Rattle.std.specs.Prelude.{◌≡◌, cond, ◌||◌, ℕ, ◌<◌, ◌≤◌, ◌+◌, ◌*◌, length, get_or};
+ghost use Rattle.std.specs.Prelude.{◌≡◌, cond, ◌||◌, ℕ, ◌<◌, ◌≤◌, ◌+◌, ◌*◌, get_or};
 ghost use Rattle.rules.specs.Ballot.{ballot_at};
 ghost use Rattle.rules.specs.Heard.{member as member_of, set_of};
 ghost use Rattle.engine.specs.Look.{code_at, is_within, statuses_of, codes_of, barred_from, alone as alone_of};
@@ -28,8 +28,8 @@ pub(crate) fn code_in(five: &[u8; BALLOT_BYTES]) -> usize
     code_of(five[VALUE], five[STATUS])
 }
 
-// Two for each value. A table by value and status, without a number of both, was tried and proved: it took
-// 1.52 times the C with 64 ballots, over the aim of 1.5 (docs/SPEED.md), where this takes 1.39.
+// Two for each value. A table by value and status, without a number of both, was tried and proved: with 64
+// ballots it took 1.49 times the instructions of the C, where this takes 1.32.
 fn code_of(value: u8, status: u8) -> usize
     ensures { result ≡ value * 2 + status }
 {
@@ -62,7 +62,7 @@ pub(crate) fn bounds_of(class: Class) -> Bounds
 pub(crate) fn stands(n: u8, bounds: Bounds, five: &[u8; BALLOT_BYTES]) -> bool
     ensures { result ≡ is_within n bounds.codes bounds.statuses five.now 0 }
 {
-    (five[SENDER] < n) & ((five[STATUS] < bounds.statuses) & (code_in(five) < bounds.codes))
+    five[SENDER] < n && five[STATUS] < bounds.statuses && code_in(five) < bounds.codes
 }
 
 // Who may not say what at the phase, the head's or a higher one.
@@ -73,7 +73,7 @@ pub(crate) fn barred_from(head: Head, phase: u16) -> [u32; 5]
 {
     let own = alone(head.own);
     if phase != head.phase {
-        return [own, own, own, own, own];
+        return [own; 5];
     }
     let zeros = head.zeros;
     let ones = head.ones;
