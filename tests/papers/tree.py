@@ -15,6 +15,8 @@ ANTT = re.compile(r"^(?:abbrev |unfoldable )*(?:pub )?([^\s(){}:]+) :"         #
 RT = re.compile(r"\b(?:fn|struct|enum|const|mod) (\w+)"
                 r"|^ +pub (\w+):|^ +([A-Z]\w+)(?=[,({ ])"                      # a field, a variant
                 r"|[(,] ?(\w+): ", re.M)                                        # a parameter
+RT_BLOCK = re.compile(r"^(?:impl|(?:pub )?trait)\b(?:<[^>]*>)? ([^{]*?)\s*\{\n(.*?)^\}", re.M | re.S)
+METHOD = re.compile(r"^ +[^/\n]*\bfn (\w+)", re.M)
 C = re.compile(r"#define (\w+)|\b(\w+)\(")
 PYTHON = re.compile(r"^ *(?:def|class) (\w+)|^([A-Z_]+) =", re.M)
 THEOREM = re.compile(r"^pub ([a-z0-9_]+) :", re.M)
@@ -49,6 +51,11 @@ class Tree:
             if path.endswith(endings):
                 for found in pattern.finditer(text):
                     self.define(next(g for g in found.groups() if g), path)
+        if path.endswith(".rt"):
+            for head, body in RT_BLOCK.findall(text):
+                owner = re.match(r"\w+", head.rpartition(" for ")[2]).group()
+                for method in METHOD.findall(body):
+                    self.define("%s::%s" % (owner, method), path)       # a type's or a trait's
 
     def define(self, name, path):
         self.names.setdefault(name, set()).add(path)

@@ -5,6 +5,7 @@ pub mod PrintedCase
 pub mod Reading
 pub mod Running
 pub mod OneAnswer
+pub mod Only
 pub mod Printing
 pub mod TheBench
 pub mod TheBenchApplied
