@@ -32,7 +32,7 @@ from seeded import PAPER, seeds
 from tree import PAGES, Tree, text_of
 
 WIDEST = 120
-PORT = "docs/PORT.md"
+BOTH = {"docs/PORT.md", "docs/DESIGN-PASS.md"}
 LANDINGS = re.compile(r"docs/changes/W\d+\.md")
 NAME = re.compile(r"[^\W\d][\w'-]*(::\w+){0,2}")
 PATH = re.compile(r"[\w./*-]*(/[\w.*-]+|\.(antt|rt|md|py|c|h|rs|sh|run|edit|txt|svg|out))/?")
@@ -40,9 +40,9 @@ IN_PHRASE = re.compile(r"[\w./*'-]*[^\W\d_][\w./*'-]*")
 
 
 def papers():
-    """The text of each paper, by path.  The page on the port is none: it has old names beside those of the tree."""
+    """The text of each paper, by path.  The pages of BOTH have old names beside those of the tree."""
     paths = ["README.md"] + sorted(glob.glob("docs/**/*.md", recursive=True))
-    return {path: text_of(path) for path in paths if path != PORT}
+    return {path: text_of(path) for path in paths if path not in BOTH}
 
 
 def all_faults(texts, tree):
