@@ -8,7 +8,8 @@ ghost use Rattle.io.specs.Counts.{IsPrefixLen};
 
 use std::io::{self, Cursor, Error, Print, Read, Stdin, Write};
 
-// The buffer holds 65,536 bytes, and the first 41,002 of a file decide its report, whatever follows.
+// The buffer holds 65,536 bytes, and the first 41,002 of a file decide its report, whatever follows. So
+// an input of any length is answered in this much memory, and no heap is needed that could run out.
 fn main(rt: HostRuntime) {
     let mut buffer = [0; 65536];
     match read_input(rt.stdin(), &mut buffer) {

@@ -17,14 +17,15 @@ ghost use Rattle.std.specs.Prelude.{◌≤◌, length};
 use std::io::{Print, Read, Result, Stdin};
 
 fn main(rt: HostRuntime) -> Result<()> {
-    // More than any file of vectors has. What is past it has no answers, which shows.
+    // More than any file of vectors has, and no heap. What is past it has no answers, which shows.
     let mut file = [0u8; 131072];
     let count = read_full(rt.stdin(), &mut file);
     answer_lines(&rt, &file[..count])
 }
 
 // Reads until the buffer is full, the input ends or a read fails, and gives the number of bytes. The
-// library's loops give no number where a read fails, and what was read before is still answered.
+// library's loops give no number where a read fails, and what was read before is still answered. Much as
+// `read_input` of the bench: a crate for this one loop of two programs is no plainer.
 fn read_full(mut stdin: Stdin, buffer: &mut [u8]) -> usize
     ensures { result ≤ length buffer.new }
 {

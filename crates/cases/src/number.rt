@@ -1,4 +1,4 @@
-// The numbers in a vector.
+// The numbers in a vector, read apart from the code that the vectors try.
 
 // The number in four bytes from an index on, high byte first, and 0 where they pass the end.
 pub(crate) fn number_at(bytes: &[u8], at: usize) -> u32 {

@@ -101,6 +101,7 @@ pub(crate) fn either(a: u32, b: u32, c: u32) -> u32
     a | (b | c)
 }
 
+// In both, `s < 32` is asked and not a type's: the number comes as a ballot's byte at each call.
 pub(crate) fn alone(s: u8) -> u32
     requires { s < 32 }
     ensures { result ≡ alone_of s }

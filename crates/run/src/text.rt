@@ -81,6 +81,7 @@ impl Text {
     fn push_number(&mut self, number: usize)
         ensures { self.new ≡ with_word self.old (decimal number) }
     {
+        // What `io::decimal` fills: 20 digits, the most that a number has.
         let mut digits = [0; 20];
         let count = io::decimal(number as u64, &mut digits);
         self.push(&digits[..count]);

@@ -1,5 +1,5 @@
 // The three symbols for C: each calls the function of `vote` of its name, and promises what that one
-// promises. Nothing else is exported.
+// promises. Nothing else is exported. A crate is a library or an archive for C, so they stand twice.
 #![tactic(auto)]
 
 ghost use Rattle.std.specs.Prelude.{◌≡◌};
