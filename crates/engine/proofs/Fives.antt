@@ -1,5 +1,5 @@
 -- A list of ballots as arrays of five bytes: what stands at index 0 of one stands at its index of the list.
-use Prim.Native.Nat.{ℕ, ◌≤◌, ◌<◌}
+use Prim.Native.Nat.{ℕ, ◌+◌, ◌*◌, ◌≤◌, ◌<◌}
 use mathlib.Core.Path.{◌≡◌, refl, sym, ap, ◌∙◌}
 use mathlib.Core.List.{List, []}
 use mathlib.Core.Bool.{Bool, true, false}
@@ -18,7 +18,7 @@ use Rattle.rules.specs.Tick.{ballots}
 use Rattle.rules.proofs.Counting.Below.{NoneBefore, first_at, first_none}
 use Rattle.rules.proofs.Layouts.Encoding.{five_hold, first_of_five, byte_of_five}
 use Rattle.codes.proofs.Fives.{array_at}
-use Rattle.engine.specs.Look.{code_at, is_within}
+use Rattle.engine.specs.Look.{is_within}
 
 -- ---- one array
 
@@ -47,11 +47,14 @@ module _ {five l : List ℕ} {i : ℕ} (at : StandsAt five l i) where
   same_rule n =
       rw (first_of_five l i, byte_of_five l i 1 (lit< tt), byte_of_five l i 2 (lit< tt), byte_of_five l i 3 (lit< tt), byte_of_five l i 4 (lit< tt), at.same) refl
 
-  pub same_code : code_at five 0 ≡ code_at l i
-  same_code = rw (byte_of_five l i 1 (lit< tt), byte_of_five l i 2 (lit< tt), at.same) refl
+  pub same_value : get_or five 1 0 ≡ get_or l (i * 5 + 1) 0
+  same_value = ap (λ (f : List ℕ). get_or f 1 0) at.same ∙ sym (byte_of_five l i 1 (lit< tt))
 
-  pub same_bounds : (n codes statuses : ℕ) → is_within n codes statuses five 0 ≡ is_within n codes statuses l i
-  same_bounds n codes statuses =
+  pub same_status : get_or five 2 0 ≡ get_or l (i * 5 + 2) 0
+  same_status = ap (λ (f : List ℕ). get_or f 2 0) at.same ∙ sym (byte_of_five l i 2 (lit< tt))
+
+  pub same_within : (n : ℕ) (statuses : List ℕ) → is_within n statuses five 0 ≡ is_within n statuses l i
+  same_within n statuses =
       rw (first_of_five l i, byte_of_five l i 1 (lit< tt), byte_of_five l i 2 (lit< tt), at.same) refl
 
 -- ---- a search from an index on

@@ -12,8 +12,6 @@ use Rattle.rules.specs.declared.Value.{Value}
 use Rattle.rules.specs.declared.Value.TheVariants.{Zero, One, Blank}
 use Rattle.rules.specs.declared.Status.{Status}
 use Rattle.rules.specs.declared.Status.TheVariants.{Undecided, Decided}
-use Rattle.rules.specs.declared.Class.{Class}
-use Rattle.rules.specs.declared.Class.TheVariants.{Never, First, Second, Odd, Even}
 use Rattle.rules.specs.declared.Ballot.{Ballot}
 use Rattle.rules.specs.declared.Head.{Head}
 use Rattle.rules.specs.Below.{first, some}
@@ -25,53 +23,47 @@ use Rattle.rules.proofs.Counting.Below.{NoneBefore, first_le, first_before, firs
 use Rattle.rules.proofs.Counting.Sets.{member_set_of}
 use Rattle.rules.proofs.Meaning.Meanings.{value_back, status_back}
 use Rattle.rules.proofs.Meaning.Accepted.{value_code_back, status_code_back}
-use Rattle.engine.specs.Look.{refused, code, code_at, is_within, KnownIn, statuses_of, codes_of, ballot_by, barred_from, highest, is_of, is_said, listed_in, said_in, Fits}
-use Rattle.engine.proofs.Bounds.{two_bounds}
-use Rattle.engine.proofs.Fives.{StandsAt, same_sender, same_phase, same_rule, same_bounds}
+use Rattle.engine.specs.Look.{refused, code, is_within, KnownIn, statuses_of, ballot_by, barred_from, highest, is_of, is_said, listed_in, said_in, Fits}
+use Rattle.engine.proofs.Bounds.{statuses_tell, few}
+use Rattle.engine.proofs.Fives.{StandsAt, same_sender, same_phase, same_rule, same_value, same_status, same_within}
 use Rattle.engine.proofs.Growing.{highest_most, highest_least}
 
 -- ---- a ballot that breaks no rule
 
--- the two bounds of its phase tell
-pub breaks_bounds : (n : ℕ) (l : List ℕ) (i p codes statuses : ℕ) → (ballot_at l i).phase ≡ p
-    → codes ≡ codes_of (class_of p) → statuses ≡ statuses_of (class_of p)
-    → breaks_rule n l i ≡ not (is_within n codes statuses l i)
+-- the statuses that stand at its phase tell
+pub breaks_within : (n : ℕ) (l : List ℕ) (i p : ℕ) (statuses : List ℕ) → (ballot_at l i).phase ≡ p
+    → statuses ≡ statuses_of (class_of p) → breaks_rule n l i ≡ not (is_within n statuses l i)
 unfolding breaks_rule obeys ballot_at
-breaks_bounds n l i p codes statuses e c t =
+breaks_within n l i p statuses e t =
     ap (λ (b : Bool). not (ltb (get_or l (i * 5) 0) n && b))
-    (two_bounds (class_of (phase_at l i)) (get_or l (i * 5 + 1) 0) (get_or l (i * 5 + 2) 0)
-    ∙ ap₂ (λ (a b : ℕ). ltb (get_or l (i * 5 + 2) 0) a && ltb (code_at l i) b) (ap (λ (q : ℕ). statuses_of (class_of q)) e ∙ sym t) (ap (λ (q : ℕ). codes_of (class_of q)) e ∙ sym c))
+    (statuses_tell (class_of (phase_at l i)) (get_or l (i * 5 + 1) 0) (get_or l (i * 5 + 2) 0)
+    ∙ ap (λ (s : List ℕ). ltb (get_or l (i * 5 + 2) 0) (get_or s (get_or l (i * 5 + 1) 0) 0)) (ap (λ (q : ℕ). statuses_of (class_of q)) e ∙ sym t))
 
-few_statuses : (c : Class) → statuses_of c ≤ 2
-few_statuses Never = omega arith
-few_statuses First = omega arith
-few_statuses Second = omega arith
-few_statuses Odd = omega arith
-few_statuses Even = omega arith
-
-few_codes : (c : Class) → codes_of c ≤ 5
-few_codes Never = omega arith
-few_codes First = omega arith
-few_codes Second = omega arith
-few_codes Odd = omega arith
-few_codes Even = omega arith
+-- the codes at an index in one number
+abbrev pub code_at : List ℕ → ℕ → ℕ
+code_at l i = get_or l (i * 5 + 1) 0 * 2 + get_or l (i * 5 + 2) 0
 
 module _ (n : ℕ) (l : List ℕ) (i : ℕ) (stands : breaks_rule n l i ≡ false) where
-  bounds : is_within n (codes_of (class_of (ballot_at l i).phase)) (statuses_of (class_of (ballot_at l i).phase)) l i ≡ true
-  bounds =
-      not-false _ (sym (breaks_bounds n l i (ballot_at l i).phase (codes_of (class_of (ballot_at l i).phase)) (statuses_of (class_of (ballot_at l i).phase)) refl refl refl) ∙ stands)
+  abbrev statuses : List ℕ
+  statuses = statuses_of (class_of (ballot_at l i).phase)
+
+  within : is_within n statuses l i ≡ true
+  within = not-false _ (sym (breaks_within n l i (ballot_at l i).phase statuses refl refl) ∙ stands)
 
   pub low_sender : (ballot_at l i).sender < n
   unfolding ballot_at
-  low_sender = ltb-true (get_or l (i * 5) 0) n (and_left (ltb (get_or l (i * 5) 0) n) _ bounds)
+  low_sender = ltb-true (get_or l (i * 5) 0) n (and_left (ltb (get_or l (i * 5) 0) n) _ within)
 
-  low_status : get_or l (i * 5 + 2) 0 < 2
-  low_status =
-      omega (arith, few_statuses (class_of (ballot_at l i).phase), ltb-true (get_or l (i * 5 + 2) 0) (statuses_of (class_of (ballot_at l i).phase)) (and_left (ltb (get_or l (i * 5 + 2) 0) _) _ (and_right (ltb (get_or l (i * 5) 0) n) _ bounds)))
+  low : (get_or l (i * 5 + 2) 0 < 2) × (code_at l i < 5)
+  low =
+      few (class_of (ballot_at l i).phase) (get_or l (i * 5 + 1) 0) (get_or l (i * 5 + 2) 0)
+      (ltb-true (get_or l (i * 5 + 2) 0) (get_or statuses (get_or l (i * 5 + 1) 0) 0) (and_right (ltb (get_or l (i * 5) 0) n) _ within))
+
+  pub low_status : get_or l (i * 5 + 2) 0 < 2
+  low_status = low.0
 
   pub low_code : code_at l i < 5
-  low_code =
-      omega (arith, few_codes (class_of (ballot_at l i).phase), ltb-true (code_at l i) (codes_of (class_of (ballot_at l i).phase)) (and_right (ltb (get_or l (i * 5 + 2) 0) _) _ (and_right (ltb (get_or l (i * 5) 0) n) _ bounds)))
+  low_code = low.1
 
   -- its codes are those of its value and status, and at most five
   pub code_read : code_at l i ≡ code (ballot_at l i)
@@ -81,12 +73,18 @@ module _ (n : ℕ) (l : List ℕ) (i : ℕ) (stands : breaks_rule n l i ≡ fals
       let t : status_code (status_of (get_or l (i * 5 + 2) 0)) ≡ get_or l (i * 5 + 2) 0 = status_code_back (get_or l (i * 5 + 2) 0) low_status in
       omega arith
 
+  -- read from its own bytes too
+  pub code_of : {five : List ℕ} {v t : ℕ} → StandsAt five l i → v ≡ get_or five 1 0 → t ≡ get_or five 2 0
+      → (v * 2 + t ≡ code (ballot_at l i)) × (v * 2 + t < 5)
+  code_of at e f =
+      (omega (arith, e, f, same_value at, same_status at, code_read), omega (arith, e, f, same_value at, same_status at, low_code))
+
   pub code_low : code (ballot_at l i) < 5
   code_low = omega (arith, low_code, code_read)
 
 -- ---- two ballots
 
-value_low : (v : Value) → value_code v < 3
+pub value_low : (v : Value) → value_code v < 3
 value_low Zero = omega arith
 value_low One = omega arith
 value_low Blank = omega arith
@@ -166,21 +164,21 @@ module _ (h : Head) (l : List ℕ) (i : ℕ) where
   clean_low f e = omega (arith, low_sender h.n l i (stands_clean e), f.0)
 
   -- the test of the hot loop: of the phase, and within its bounds
-  module _ {five : List ℕ} (at : StandsAt five l i) (p x codes statuses : ℕ) (t : Bool) (is : x ≡ (ballot_at five 0).phase)
-      (c : codes ≡ codes_of (class_of p)) (d : statuses ≡ statuses_of (class_of p)) (within : t ≡ is_within h.n codes statuses five 0) where
+  module _ {five : List ℕ} (at : StandsAt five l i) (p x : ℕ) (statuses : List ℕ) (t : Bool) (is : x ≡ (ballot_at five 0).phase)
+      (s : statuses ≡ statuses_of (class_of p)) (within : t ≡ is_within h.n statuses five 0) where
     phase : x ≡ (ballot_at l i).phase
     phase = is ∙ same_phase at
 
-    test : t ≡ is_within h.n codes statuses l i
-    test = within ∙ same_bounds at h.n codes statuses
+    test : t ≡ is_within h.n statuses l i
+    test = within ∙ same_within at h.n statuses
 
     pub test_passed : x ≡ p → t ≡ true → ((ballot_at l i).phase ≡ p) × (breaks_rule h.n l i ≡ false)
     test_passed e b =
         let here : (ballot_at l i).phase ≡ p = sym phase ∙ e in
-        (here, breaks_bounds h.n l i p codes statuses here c d ∙ ap not (sym test ∙ b))
+        (here, breaks_within h.n l i p statuses here s ∙ ap not (sym test ∙ b))
 
     pub test_failed : t ≡ false → (ballot_at l i).phase ≡ p → refused h l i ≡ true
-    test_failed e here = sym (refused_breaks (breaks_bounds h.n l i p codes statuses here c d ∙ ap not (sym test ∙ e)))
+    test_failed e here = sym (refused_breaks (breaks_within h.n l i p statuses here s ∙ ap not (sym test ∙ e)))
 
   -- 7 or 8
   pub refused_parts : breaks_rule h.n l i ≡ false → earlier || otherwise ≡ refused h l i
@@ -295,14 +293,19 @@ module _ (h : Head) (l : List ℕ) (i : ℕ) (clean : NoneBefore i (refused h l)
       from : (code (ballot_at l e) ≡ code (ballot_at l i) → ⊥) → OneOf
       from n = elim (dec_lt e i) [ yes b ↦ (e, b, (there b, n)) | no b ↦ absurd (n (ap (λ (m : ℕ). code (ballot_at l m)) (omega (arith, b, is, first_le i here)))) ]
 
-  pub refused_late : breaks_rule h.n l i ≡ false → (e a b : ℕ) → e ≡ first i here → a ≡ code_at l e → b ≡ code_at l i
-      → not (eqb a b) || otherwise h l i ≡ refused h l i
-  refused_late stands e a b is ea eb =
-      ap₂ (λ (x y : ℕ). not (eqb x y) || otherwise h l i) (ea ∙ code_read h.n l e before) (eb ∙ code_read h.n l i stands)
+  pub refused_late : breaks_rule h.n l i ≡ false → (e : ℕ) (t : Bool) → e ≡ first i here
+      → t ≡ eqb (get_or l (e * 5 + 1) 0) (get_or l (i * 5 + 1) 0) && eqb (get_or l (e * 5 + 2) 0) (get_or l (i * 5 + 2) 0)
+      → not t || otherwise h l i ≡ refused h l i
+  refused_late stands e t is et =
+      ap (λ (b : Bool). not b || otherwise h l i) (et ∙ one_number _ _ _ _ (low_status h.n l e before) (low_status h.n l i stands) ∙ ap₂ eqb (code_read h.n l e before) (code_read h.n l i stands))
       ∙ sym (ap (λ (t : Bool). t || otherwise h l i) (differs_first e is)) ∙ refused_parts h l i stands
     where
       before : breaks_rule h.n l e ≡ false
       before = elim (dec_lt e i) [ yes b ↦ stands_clean h l e (clean e b) | no b ↦ ap (breaks_rule h.n l) (omega (arith, b, is, first_le i here)) ∙ stands ]
+
+      one_number : (v t w u : ℕ) → t < 2 → u < 2 → eqb v w && eqb t u ≡ eqb (v * 2 + t) (w * 2 + u)
+      one_number v t w u a b =
+          means_same (means_and (means_eq v w) (means_eq t u)) (means_as (λ e. (omega arith, omega arith)) (λ p. omega (arith, p.0, p.1)) (means_eq (v * 2 + t) (w * 2 + u)))
 
   -- what was said before was not barred
   not_barred : some i same ≡ true → otherwise h l i ≡ false

@@ -52,32 +52,26 @@ ended h g coin =
 unfoldable pub refused : Head → List ℕ → ℕ → Bool
 refused h l i = breaks_rule h.n l i || (own_otherwise h (ballot_at l i) || contradicts h l i)
 
--- a value and a status in one number, two for each value: of a ballot, and of the codes at index i
+-- a value and a status in one number, two for each value
 abbrev pub code : Ballot → ℕ
 code b = value_code b.value * 2 + status_code b.status
 
-abbrev pub code_at : List ℕ → ℕ → ℕ
-code_at l i = get_or l (i * 5 + 1) 0 * 2 + get_or l (i * 5 + 2) 0
+-- the ballot rules at phases of a class: how many statuses stand for each value
+abbrev pub statuses_of : Class → List ℕ
+statuses_of Never = 0 ∷ 0 ∷ 0 ∷ []
+statuses_of First = 1 ∷ 1 ∷ 0 ∷ []
+statuses_of Second = 1 ∷ 1 ∷ 1 ∷ []
+statuses_of Odd = 2 ∷ 2 ∷ 0 ∷ []
+statuses_of Even = 2 ∷ 2 ∷ 1 ∷ []
 
--- the ballot rules at phases of a class, as two bounds: how many statuses are allowed, and how many of those numbers
-abbrev pub statuses_of : Class → ℕ
-statuses_of Never = 0
-statuses_of First = 1
-statuses_of Second = 1
-statuses_of Odd = 2
-statuses_of Even = 2
+-- the ballot at index i has a sender below n, and that many statuses stand for its value
+abbrev pub is_within : ℕ → List ℕ → List ℕ → ℕ → Bool
+is_within n statuses l i =
+    ltb (get_or l (i * 5) 0) n && ltb (get_or l (i * 5 + 2) 0) (get_or statuses (get_or l (i * 5 + 1) 0) 0)
 
-abbrev pub codes_of : Class → ℕ
-codes_of Never = 0
-codes_of First = 4
-codes_of Second = 5
-codes_of Odd = 4
-codes_of Even = 5
-
--- the ballot at index i is within the bounds
-abbrev pub is_within : ℕ → ℕ → ℕ → List ℕ → ℕ → Bool
-is_within n codes statuses l i =
-    ltb (get_or l (i * 5) 0) n && (ltb (get_or l (i * 5 + 2) 0) statuses && ltb (code_at l i) codes)
+-- a table with a row for each value and a column for each status: at a value and a status in one number
+abbrev pub in_table : List (List ℕ) → ℕ → ℕ
+in_table said c = get_or (get_or said (c / 2) []) (c % 2) 0
 
 -- the ballot of head s at phase p with that value and status
 abbrev pub ballot_by : ℕ → ℕ → ℕ → Ballot
@@ -150,18 +144,18 @@ unlooked h =
       blanks = 0;
     }
 
-abbrev pub with_said : Look → ℕ → ℕ → List ℕ → Look
+abbrev pub with_said : Look → ℕ → ℕ → List (List ℕ) → Look
 with_said look k listed said =
     record {
       next = k;
       phase = look.phase;
       listed = listed;
       elsewhere = look.elsewhere;
-      zeros = get_or said 0 0;
-      zeros_decided = get_or said 1 0;
-      ones = get_or said 2 0;
-      ones_decided = get_or said 3 0;
-      blanks = get_or said 4 0;
+      zeros = in_table said 0;
+      zeros_decided = in_table said 1;
+      ones = in_table said 2;
+      ones_decided = in_table said 3;
+      blanks = in_table said 4;
     }
 
 -- numbers of heads that fit into a set

@@ -10,7 +10,9 @@ ghost use Rattle.engine.specs.Look.{Fits, Looks, GoesOn, KnownIn, value_by, stat
 
 use crate::ballot::{breaks_rule, class};
 use crate::list::{first_of, otherwise};
-use crate::said::{alone, barred_from, bounds_of, code_in, has, phase_in, sender_in, stands};
+use crate::said::{
+    alone, barred_from, has, phase_in, place_in, say_the_same, sender_in, stands, statuses_of,
+};
 use codes::{BALLOT_BYTES, lowest};
 use rules::{Ballot, Head, Status, Value};
 
@@ -79,44 +81,42 @@ impl Look {
         ensures { GoesOn head ballots.now (λ p q. p ≡ q) self result }
     {
         let (fives, _) = ballots.as_chunks::<BALLOT_BYTES>();
-        let bounds = bounds_of(class(self.phase));
+        let statuses = statuses_of(class(self.phase));
         let barred = barred_from(head, self.phase);
         let mut listed = self.listed;
         let mut said = [
-            self.zeros,
-            self.zeros_decided,
-            self.ones,
-            self.ones_decided,
-            self.blanks,
+            [self.zeros, self.zeros_decided],
+            [self.ones, self.ones_decided],
+            [self.blanks, 0],
         ];
         for i in self.next..fives.len() {
             let five = &fives[i];
-            if phase_in(five) != self.phase || !stands(head.n, bounds, five) {
+            if phase_in(five) != self.phase || !stands(head.n, &statuses, five) {
                 return self.with_said(i, listed, said);
             }
             let sender = sender_in(five);
-            let code = code_in(five);
-            if is_refused(barred[code], listed, said[code], sender) {
+            let (value, status) = place_in(five);
+            if is_refused(barred[value][status], listed, said[value][status], sender) {
                 return self.with_said(i, listed, said);
             }
             let one = alone(sender);
-            said[code] |= one;
+            said[value][status] |= one;
             listed |= one;
         }
         self.with_said(fives.len(), listed, said)
     }
 
-    fn with_said(self, next: usize, listed: u32, said: [u32; 5]) -> Look
+    fn with_said(self, next: usize, listed: u32, said: [[u32; 2]; 3]) -> Look
         ensures { result ≡ with_said self next listed said }
     {
         Look {
             next,
             listed,
-            zeros: said[0],
-            zeros_decided: said[1],
-            ones: said[2],
-            ones_decided: said[3],
-            blanks: said[4],
+            zeros: said[0][0],
+            zeros_decided: said[0][1],
+            ones: said[1][0],
+            ones_decided: said[1][1],
+            blanks: said[2][0],
             ..self
         }
     }
@@ -164,8 +164,9 @@ impl Look {
             return self;
         }
         let sender = alone(sender_in(five));
-        let mut said = [0; 5];
-        said[code_in(five)] = sender;
+        let (value, status) = place_in(five);
+        let mut said = [[0; 2]; 3];
+        said[value][status] = sender;
         let risen = Look {
             phase: phase_in(five),
             elsewhere: self.elsewhere | self.listed,
@@ -228,7 +229,7 @@ fn is_refused_late(elsewhere: u32, head: Head, ballots: &[u8], i: usize) -> bool
         return otherwise(head, five);
     }
     let earlier = first_of(ballots, phase_in(five), sender_in(five), i);
-    (code_in(&fives[earlier]) != code_in(five)) | otherwise(head, five)
+    !say_the_same(&fives[earlier], five) || otherwise(head, five)
 }
 
 // Whether a ballot of a higher phase than the look's is refused: by 6, or under the head's own number

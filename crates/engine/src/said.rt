@@ -1,8 +1,8 @@
-// What one ballot of a list says, its value and status in one number; and sets of those who say it.
-ghost use Rattle.std.specs.Prelude.{◌≡◌, cond, ◌||◌, ℕ, ◌<◌, ◌≤◌, ◌+◌, ◌*◌, get_or};
+// What one ballot of a list says; and sets of those who say it.
+ghost use Rattle.std.specs.Prelude.{◌≡◌, ◌&&◌, ◌||◌, ℕ, ◌<◌, ◌≤◌, get_or, eqb};
 ghost use Rattle.rules.specs.Ballot.{ballot_at};
 ghost use Rattle.rules.specs.Heard.{member as member_of, set_of};
-ghost use Rattle.engine.specs.Look.{code_at, is_within, statuses_of, codes_of, barred_from, alone as alone_of};
+ghost use Rattle.engine.specs.Look.{in_table, is_within, statuses_of, barred_from, alone as alone_of};
 
 use codes::{BALLOT_BYTES, Coded, PHASE_HIGH, PHASE_LOW, SENDER, STATUS, VALUE, phase_of};
 use rules::{Class, Head};
@@ -22,76 +22,74 @@ pub(crate) fn phase_in(five: &[u8; BALLOT_BYTES]) -> u16
     phase_of(five[PHASE_HIGH], five[PHASE_LOW])
 }
 
-pub(crate) fn code_in(five: &[u8; BALLOT_BYTES]) -> usize
-    ensures { result ≡ code_at five.now 0 }
+// The place of its value and status in a table with a row for each value and a column for each status.
+pub(crate) fn place_in(five: &[u8; BALLOT_BYTES]) -> (usize, usize)
+    requires value_low { get_or five.now 1 0 < 3 }
+    requires status_low { get_or five.now 2 0 < 2 }
+    ensures value { result.0 ≡ get_or five.now 1 0 }
+    ensures status { result.1 ≡ get_or five.now 2 0 }
+    ensures within { (result.0 < 3) × (result.1 < 2) }
 {
-    code_of(five[VALUE], five[STATUS])
+    (five[VALUE] as usize, five[STATUS] as usize)
 }
 
-// Two for each value. A table by value and status, without a number of both, was tried and proved: with 64
-// ballots it took 1.49 times the instructions of the C, where this takes 1.32.
-fn code_of(value: u8, status: u8) -> usize
-    ensures { result ≡ value * 2 + status }
+// Whether two ballots are of one value and status.
+pub(crate) fn say_the_same(five: &[u8; BALLOT_BYTES], other: &[u8; BALLOT_BYTES]) -> bool
+    ensures { result ≡ eqb (get_or five.now 1 0) (get_or other.now 1 0)
+        && eqb (get_or five.now 2 0) (get_or other.now 2 0) }
 {
-    value as usize * 2 + status as usize
+    five[VALUE] == other[VALUE] && five[STATUS] == other[STATUS]
 }
 
-// The ballot rules at phases of a class, as two bounds: how many statuses stand, and how many of the
-// numbers of value and status.
-#[derive(Clone, Copy)]
-pub(crate) struct Bounds {
-    statuses: u8,
-    codes: usize,
+// The ballot rules at phases of a class: how many statuses stand for each value.
+pub(crate) fn statuses_of(class: Class) -> [u8; 3]
+    ensures { result ≡ statuses_of class }
+{
+    match class {
+        Class::Never => [0, 0, 0],
+        Class::First => [1, 1, 0],
+        Class::Second => [1, 1, 1],
+        Class::Odd => [2, 2, 0],
+        Class::Even => [2, 2, 1],
+    }
 }
 
-pub(crate) fn bounds_of(class: Class) -> Bounds
-    ensures statuses { result.statuses ≡ statuses_of class }
-    ensures codes { result.codes ≡ codes_of class }
+// Whether its sender is below n, and its value and status stand.
+pub(crate) fn stands(n: u8, statuses: &[u8; 3], five: &[u8; BALLOT_BYTES]) -> bool
+    ensures { result ≡ is_within n statuses.now five.now 0 }
 {
-    let (statuses, codes) = match class {
-        Class::Never => (0, 0),
-        Class::First => (1, 4),
-        Class::Second => (1, 5),
-        Class::Odd => (2, 4),
-        Class::Even => (2, 5),
-    };
-    Bounds { statuses, codes }
-}
-
-// Whether its sender and codes stand within the bounds.
-pub(crate) fn stands(n: u8, bounds: Bounds, five: &[u8; BALLOT_BYTES]) -> bool
-    ensures { result ≡ is_within n bounds.codes bounds.statuses five.now 0 }
-{
-    five[SENDER] < n && five[STATUS] < bounds.statuses && code_in(five) < bounds.codes
+    five[SENDER] < n && five[VALUE] <= 2 && five[STATUS] < statuses[five[VALUE] as usize]
 }
 
 // Who may not say what at the phase, the head's or a higher one.
-pub(crate) fn barred_from(head: Head, phase: u16) -> [u32; 5]
+pub(crate) fn barred_from(head: Head, phase: u16) -> [[u32; 2]; 3]
     requires own_bound { head.own < 32 }
     requires phase_le_phase { head.phase ≤ phase }
-    ensures { (c : ℕ) → c < 5 → get_or result c 0 ≡ barred_from head phase c }
+    ensures { (c : ℕ) → c < 5 → in_table result c ≡ barred_from head phase c }
 {
     let own = alone(head.own);
     if phase != head.phase {
-        return [own; 5];
+        return [[own; 2]; 3];
     }
     let zeros = head.zeros;
     let ones = head.ones;
     let blanks = head.blanks;
-    let code = code_of(head.value.code(), head.status.code());
+    let mut others = [[own; 2]; 3];
+    others[head.value.code() as usize][head.status.code() as usize] = 0;
     [
-        either(ones, blanks, unless(code == 0, own)),
-        either(ones, blanks, unless(code == 1, own)),
-        either(zeros, blanks, unless(code == 2, own)),
-        either(zeros, blanks, unless(code == 3, own)),
-        either(zeros, ones, unless(code == 4, own)),
+        [
+            either(ones, blanks, others[0][0]),
+            either(ones, blanks, others[0][1]),
+        ],
+        [
+            either(zeros, blanks, others[1][0]),
+            either(zeros, blanks, others[1][1]),
+        ],
+        [
+            either(zeros, ones, others[2][0]),
+            either(zeros, ones, others[2][1]),
+        ],
     ]
-}
-
-fn unless(yes: bool, set: u32) -> u32
-    ensures { result ≡ cond yes 0 set }
-{
-    if yes { 0 } else { set }
 }
 
 #[tactic(auto, using(crate::proofs::Barred::either_set))]

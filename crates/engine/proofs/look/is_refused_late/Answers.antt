@@ -1,6 +1,6 @@
 use Prim.Native.Nat.{ℕ}
 use mathlib.Core.Path.{sym, ap, ap₂, ◌∙◌}
-use mathlib.Core.Bool.{Bool, ◌||◌, not}
+use mathlib.Core.Bool.{Bool, ◌&&◌, ◌||◌, not}
 use native.Mathlib.Omega.{arith}
 use Rattle.std.proofs.Common.{rules}
 use lib.Dec.{eqb}
@@ -9,7 +9,7 @@ use Rattle.rules.specs.Below.{first}
 use Rattle.rules.specs.Heard.{member}
 use Rattle.rules.specs.Tick.{own_otherwise, held_otherwise}
 use Rattle.engine.specs.Look.{is_of}
-use Rattle.engine.proofs.Fives.{array_of, same_ballot, same_sender, same_phase, same_code, same_rule}
+use Rattle.engine.proofs.Fives.{array_of, same_ballot, same_sender, same_phase, same_value, same_status, same_rule}
 use Rattle.engine.proofs.Refusing.{otherwise, low_sender, not_earlier, found_low, refused_breaks, refused_late, refused_parts}
 use Rattle.engine.proofs.look.is_refused_late.Goals as goal
 
@@ -40,14 +40,29 @@ offset_bounds-fives-earlier c =
 pub bounds-fives-earlier : goal.bounds-fives-earlier
 bounds-fives-earlier c = omega (arith, found_low _ _ _ _ c.first_of-earlier.ensures c.requires.i_bound, c.as_chunks.ensures.front_len)
 
-pub returns : goal.returns
-returns c =
+pub returns-then-not-say_the_same : goal.returns-then-not-say_the_same
+returns-then-not-say_the_same c =
     let h = c.args.head in
     let l = c.args.ballots.now in
     let i = c.args.i in
     let here = array_of i c.as_chunks.ensures.front c.requires.i_bound in
     let there = array_of c.first_of-earlier.result c.as_chunks.ensures.front (found_low _ _ _ _ c.first_of-earlier.ensures c.requires.i_bound) in
-    ap (λ (t : Bool). not (eqb c.code_in.result c.code_in-2.result) || t) (c.otherwise-2.ensures ∙ ap (λ (b : Ballot). own_otherwise h b || held_otherwise h b) (same_ballot here))
-    ∙ refused_late _ _ _ c.requires.by_index (sym (c.breaks_rule.ensures ∙ same_rule here h.n) ∙ c.if-breaks_rule.false) _ _ _
+    ap not c.if-not-say_the_same.true
+    ∙ sym (ap (λ (t : Bool). not t || otherwise h l i) c.if-not-say_the_same.true)
+    ∙ refused_late _ _ _ c.requires.by_index (sym (c.breaks_rule.ensures ∙ same_rule here h.n) ∙ c.if-breaks_rule.false) _ _
     (c.first_of-earlier.ensures ∙ ap₂ (λ (p s : ℕ). first i (is_of l p s)) (c.phase_in.ensures ∙ same_phase here) (c.sender_in-2.ensures ∙ same_sender here))
-    (c.code_in.ensures ∙ same_code there) (c.code_in-2.ensures ∙ same_code here)
+    (c.say_the_same.ensures ∙ ap₂ (λ (a b : Bool). a && b) (ap₂ eqb (same_value there) (same_value here)) (ap₂ eqb (same_status there) (same_status here)))
+
+pub returns-else-not-say_the_same : goal.returns-else-not-say_the_same
+returns-else-not-say_the_same c =
+    let h = c.args.head in
+    let l = c.args.ballots.now in
+    let i = c.args.i in
+    let here = array_of i c.as_chunks.ensures.front c.requires.i_bound in
+    let there = array_of c.first_of-earlier.result c.as_chunks.ensures.front (found_low _ _ _ _ c.first_of-earlier.ensures c.requires.i_bound) in
+    c.otherwise-else-not-say_the_same.ensures
+    ∙ ap (λ (b : Ballot). own_otherwise h b || held_otherwise h b) (same_ballot here)
+    ∙ sym (ap (λ (t : Bool). not t || otherwise h l i) c.if-not-say_the_same.false)
+    ∙ refused_late _ _ _ c.requires.by_index (sym (c.breaks_rule.ensures ∙ same_rule here h.n) ∙ c.if-breaks_rule.false) _ _
+    (c.first_of-earlier.ensures ∙ ap₂ (λ (p s : ℕ). first i (is_of l p s)) (c.phase_in.ensures ∙ same_phase here) (c.sender_in-2.ensures ∙ same_sender here))
+    (c.say_the_same.ensures ∙ ap₂ (λ (a b : Bool). a && b) (ap₂ eqb (same_value there) (same_value here)) (ap₂ eqb (same_status there) (same_status here)))

@@ -1,7 +1,10 @@
-use Prim.Native.Nat.{ℕ, ◌+◌, ◌*◌}
+use Prim.Native.Nat.{ℕ, ◌+◌, ◌*◌, ◌<◌}
 use mathlib.Core.Path.{refl, ap₂, ◌∙◌}
+use mathlib.Core.List.{[], ◌∷◌}
+use native.Mathlib.Omega.{arith}
 use Rattle.rules.specs.Ballot.{value_of, status_of}
-use Rattle.engine.proofs.Looking.{five}
+use Rattle.engine.proofs.Refusing.{value_low, status_low}
+use Rattle.engine.proofs.Looking.{five, is_table, table_at}
 use Rattle.engine.proofs.Barred.{barred_ahead, barred_here, not_zero, not_one, not_blank}
 use Rattle.engine.proofs.said.barred_from.Goals as goal
 
@@ -14,10 +17,14 @@ pub returns : goal.returns
 unfolding value_of status_of
 returns c =
     let here = c.if-phase-head.false in
-    let codes = c.code_of-code.ensures ∙ ap₂ (λ (v t : ℕ). v * 2 + t) c.code.ensures c.code-2.ensures in
+    let own = c.alone-own.result in
+    let code = ap₂ (λ (v t : ℕ). v * 2 + t) c.code.ensures c.code-2.ensures in
+    let v : c.code.result < 3 = omega (arith, c.code.ensures, value_low c.args.head.value) in
+    let t : c.code-2.result < 2 = omega (arith, c.code-2.ensures, status_low c.args.head.status) in
+    let others = table_at ((own ∷ own ∷ []) ∷ (own ∷ own ∷ []) ∷ (own ∷ own ∷ []) ∷ []) is_table _ _ 0 v t in
     five _
-    (c.either.ensures ∙ barred_here _ _ 0 _ _ _ _ _ c.alone-own.ensures here codes c.unless.ensures refl (not_zero _))
-    (c.either-2.ensures ∙ barred_here _ _ 1 _ _ _ _ _ c.alone-own.ensures here codes c.unless-2.ensures refl (not_zero _))
-    (c.either-3.ensures ∙ barred_here _ _ 2 _ _ _ _ _ c.alone-own.ensures here codes c.unless-3.ensures refl (not_one _))
-    (c.either-4.ensures ∙ barred_here _ _ 3 _ _ _ _ _ c.alone-own.ensures here codes c.unless-4.ensures refl (not_one _))
-    (c.either-5.ensures ∙ barred_here _ _ 4 _ _ _ _ _ c.alone-own.ensures here codes c.unless-5.ensures refl (not_blank _))
+    (c.either.ensures ∙ barred_here _ _ 0 _ _ _ _ _ c.alone-own.ensures here code (others 0) refl (not_zero _))
+    (c.either-2.ensures ∙ barred_here _ _ 1 _ _ _ _ _ c.alone-own.ensures here code (others 1) refl (not_zero _))
+    (c.either-3.ensures ∙ barred_here _ _ 2 _ _ _ _ _ c.alone-own.ensures here code (others 2) refl (not_one _))
+    (c.either-4.ensures ∙ barred_here _ _ 3 _ _ _ _ _ c.alone-own.ensures here code (others 3) refl (not_one _))
+    (c.either-5.ensures ∙ barred_here _ _ 4 _ _ _ _ _ c.alone-own.ensures here code (others 4) refl (not_blank _))
