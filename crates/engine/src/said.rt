@@ -107,6 +107,8 @@ pub(crate) fn alone(s: u8) -> u32
     1u32 << s
 }
 
+// Not `codes::member`, which tests that too: with it 64 ballots took 1.54 times the C, over the aim of 1.5
+// (docs/SPEED.md), where this takes 1.45.
 pub(crate) fn has(set: u32, s: u8) -> bool
     requires { s < 32 }
     ensures { result ≡ member_of s set }
