@@ -3,14 +3,15 @@ use Prim.Native.Nat.{ℕ, zero, suc, ◌+◌, ◌*◌, ◌≤◌, ◌<◌}
 use mathlib.Core.Path.{◌≡◌, refl, sym, ap, ◌∙◌}
 use mathlib.Core.List.{[], ◌∷◌}
 use mathlib.Core.Bool.{Bool, false, cond, ◌&&◌}
+use native.Mathlib.Decide.{ℕ_discrete}
 use native.Mathlib.Omega.{arith}
 use lib.Dec.{ltb, eqb}
 use lib.ListN.{get_or}
-use borrow.Author.Tests.{ne_eqb, le-ltb}
+use borrow.Author.Tests.{ne_eqb, eq-eqb, lt-ltb, le-ltb}
 use Rattle.rules.specs.declared.Class.{Class}
 use Rattle.rules.specs.declared.Class.TheVariants.{Never, First, Second, Odd, Even}
 use Rattle.rules.specs.Ballot.{allowed}
-use Rattle.rules.proofs.Counting.Truth.{means_same, means_as, means_lt, means_eq}
+use Rattle.rules.proofs.Counting.Truth.{Means, means_same, means_as, means_and, means_lt, means_eq}
 use Rattle.engine.specs.Look.{statuses_of}
 
 -- a value's code is 0, 1, 2 or none
@@ -51,15 +52,56 @@ statuses_tell Even v t =
     three (λ v. cond (eqb v 2) (eqb t 0) (ltb v 2 && ltb t 2) ≡ ltb t (get_or (2 ∷ 2 ∷ 1 ∷ []) v 0)) refl refl (undecided t)
     (λ v b. ap (λ (u : Bool). cond u (eqb t 0) (ltb v 2 && ltb t 2)) (ne_eqb v 2 (λ e. omega arith)) ∙ ap (λ (u : Bool). u && ltb t 2) (le-ltb v 2 (omega arith)) ∙ none_beyond 2 2 1 v t b) v
 
-rows : (x y z : ℕ) → x ≤ 2 → y ≤ 2 → z ≤ 1 → (v t : ℕ) → t < get_or (x ∷ y ∷ z ∷ []) v 0 → (t < 2) × (v * 2 + t < 5)
-rows x y z a b c v t =
-    three (λ v. t < get_or (x ∷ y ∷ z ∷ []) v 0 → (t < 2) × (v * 2 + t < 5)) (λ q. (omega arith, omega arith)) (λ q. (omega arith, omega arith)) (λ q. (omega arith, omega arith))
-    (λ v m q. absurd (omega (arith, q, beyond x y z v m))) v
+-- ---- the same as two bounds: on the status, and on value and status in one number
+
+abbrev pub most_statuses : Class → ℕ
+most_statuses Never = 0
+most_statuses First = 1
+most_statuses Second = 1
+most_statuses Odd = 2
+most_statuses Even = 2
+
+abbrev pub codes_of : Class → ℕ
+codes_of Never = 0
+codes_of First = 4
+codes_of Second = 5
+codes_of Odd = 4
+codes_of Even = 5
+
+both : (a b c d : ℕ) → Means (ltb a b && ltb c d) ((a < b) × (c < d))
+both a b c d = means_and (means_lt {a = a} {b = b}) (means_lt {a = c} {b = d})
+
+below_zero : (a b t : ℕ) → Means (ltb a b && eqb t 0) ((a < b) × (t ≡ 0))
+below_zero a b t = means_and (means_lt {a = a} {b = b}) (means_eq t 0)
+
+pub two_bounds : (c : Class) (v t : ℕ) → allowed c v t ≡ ltb t (most_statuses c) && ltb (v * 2 + t) (codes_of c)
+unfolding allowed
+two_bounds Never v t = sym (ap (λ (b : Bool). b && ltb (v * 2 + t) 0) (le-ltb t 0 (omega arith)))
+two_bounds First v t =
+    means_same (means_as (λ p. (omega (arith, p.1), omega (arith, p.0, p.1))) (λ q. (omega (arith, q.0, q.1), omega (arith, q.0))) (below_zero v 2 t)) (both t 1 (v * 2 + t) 4)
+two_bounds Second v t =
+    means_same (means_as (λ p. (omega (arith, p.1), omega (arith, p.0, p.1))) (λ q. (omega (arith, q.0, q.1), omega (arith, q.0))) (below_zero v 3 t)) (both t 1 (v * 2 + t) 5)
+two_bounds Odd v t =
+    means_same (means_as (λ p. (p.1, omega (arith, p.0, p.1))) (λ q. (omega (arith, q.0, q.1), q.0)) (both v 2 t 2)) (both t 2 (v * 2 + t) 4)
+two_bounds Even v t = go (ℕ_discrete v 2)
+  where
+    go : Dec (v ≡ 2) → cond (eqb v 2) (eqb t 0) (ltb v 2 && ltb t 2) ≡ ltb t 2 && ltb (v * 2 + t) 5
+    go (yes e) =
+        ap (λ (b : Bool). cond b (eqb t 0) (ltb v 2 && ltb t 2)) (eq-eqb v 2 e)
+        ∙ means_same (means_as (λ p. (omega (arith, p), omega (arith, p, e))) (λ q. omega (arith, q.1, e)) (means_eq t 0)) (both t 2 (v * 2 + t) 5)
+    go (no n) =
+        ap (λ (b : Bool). cond b (eqb t 0) (ltb v 2 && ltb t 2)) (ne_eqb v 2 n)
+        ∙ means_same (means_as (λ p. (p.1, omega (arith, p.0, p.1))) (λ q. (omega (arith, q.1, n), q.0)) (both v 2 t 2)) (both t 2 (v * 2 + t) 5)
+
+bounds_low : (c : Class) → (most_statuses c ≤ 2) × (codes_of c ≤ 5)
+bounds_low Never = (omega arith, omega arith)
+bounds_low First = (omega arith, omega arith)
+bounds_low Second = (omega arith, omega arith)
+bounds_low Odd = (omega arith, omega arith)
+bounds_low Even = (omega arith, omega arith)
 
 -- so a blank is never decided
 pub few : (c : Class) (v t : ℕ) → t < get_or (statuses_of c) v 0 → (t < 2) × (v * 2 + t < 5)
-few Never = rows 0 0 0 (omega arith) (omega arith) (omega arith)
-few First = rows 1 1 0 (omega arith) (omega arith) (omega arith)
-few Second = rows 1 1 1 (omega arith) (omega arith) (omega arith)
-few Odd = rows 2 2 0 (omega arith) (omega arith) (omega arith)
-few Even = rows 2 2 1 (omega arith) (omega arith) (omega arith)
+few c v t b =
+    let within = (both t (most_statuses c) (v * 2 + t) (codes_of c)).0 (sym (two_bounds c v t) ∙ statuses_tell c v t ∙ lt-ltb t (get_or (statuses_of c) v 0) b) in
+    (omega (arith, within.0, (bounds_low c).0), omega (arith, within.1, (bounds_low c).1))
