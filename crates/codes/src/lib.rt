@@ -1,6 +1,8 @@
 // Every byte layout: the codes of values, statuses and decisions, phases, sets of heads, ballots and
 // records, both ways; and how many bytes and heads there are at most.
 //
+// Tests are joined by `&` and `|`, as in the definitions: both sides are cheap, and a proof has one path.
+//
 // Nothing has a `requires`: every input has its answer, and each promise cites the definition of
 // crate `rules` that gives it.
 #![tactic(auto)]

@@ -14,10 +14,10 @@ use rules::{Decision, Head, Status, Value};
 pub fn is_record(head_record: &[u8]) -> bool
     ensures { result ≡ is_record head_record.now }
 {
-    if head_record.len() != RECORD_BYTES {
+    let Some(record) = head_record.as_array::<RECORD_BYTES>() else {
         return false;
-    }
-    (head_record[4] < 3) & ((head_record[5] < 2) & ((head_record[6] < 3) & (head_record[7] == 0)))
+    };
+    (record[4] < 3) & ((record[5] < 2) & ((record[6] < 3) & (record[7] == 0)))
 }
 
 // The head that a record holds; bytes of another length hold the head of zeros.
@@ -25,34 +25,19 @@ pub fn head_at(head_record: &[u8]) -> Head
     ensures { result ≡ cond (eqb (length head_record.now) record_bytes)
         (head_at head_record.now) zero_head }
 {
-    if head_record.len() != RECORD_BYTES {
+    let Some(record) = head_record.as_array::<RECORD_BYTES>() else {
         return zero_head();
-    }
+    };
     Head {
-        n: head_record[0],
-        own: head_record[1],
-        phase: phase_of(head_record[2], head_record[3]),
-        value: Value::from_code(head_record[4]),
-        status: Status::from_code(head_record[5]),
-        decision: Decision::from_code(head_record[6]),
-        zeros: four_bytes_of(
-            head_record[8],
-            head_record[9],
-            head_record[10],
-            head_record[11],
-        ),
-        ones: four_bytes_of(
-            head_record[12],
-            head_record[13],
-            head_record[14],
-            head_record[15],
-        ),
-        blanks: four_bytes_of(
-            head_record[16],
-            head_record[17],
-            head_record[18],
-            head_record[19],
-        ),
+        n: record[0],
+        own: record[1],
+        phase: phase_of(record[2], record[3]),
+        value: Value::from_code(record[4]),
+        status: Status::from_code(record[5]),
+        decision: Decision::from_code(record[6]),
+        zeros: four_bytes_of(record[8], record[9], record[10], record[11]),
+        ones: four_bytes_of(record[12], record[13], record[14], record[15]),
+        blanks: four_bytes_of(record[16], record[17], record[18], record[19]),
     }
 }
 

@@ -30,7 +30,7 @@ pub fn within(set: u32, n: u32) -> bool
     ensures { result ≡ within_of n set }
 {
     if n < 64 {
-        (set as u64) < 1u64 << n
+        u64::from(set) < 1u64 << n
     } else {
         true
     }

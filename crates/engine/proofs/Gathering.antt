@@ -26,13 +26,13 @@ use Rattle.rules.proofs.Counting.Truth.{Means, false_not, not_false, means_same,
 use Rattle.rules.proofs.Counting.Below.{NoneBefore, first_le, first_before, first_holds, first_at, some_here, some_not, not_some, means_some, search_finds}
 use Rattle.rules.proofs.Counting.Sets.{member_none, member_set_of, means_member, member_or, set_of_lt, set_of_is, means_within}
 use Rattle.rules.specs.Given.{Sound}
-use Rattle.rules.proofs.Meaning.Meanings.{means_sound}
+use Rattle.rules.proofs.Meaning.Meanings.{status_low, means_sound}
 use Rattle.rules.proofs.OneTick.Leader.{means_ahead, Leads, leader_leads, leader_highest}
 use Rattle.rules.proofs.OneTick.Senders.{Moves, stays, copies, moves}
 use Rattle.engine.specs.declared.look.Look.{Look}
 use Rattle.engine.specs.Look.{refused, code, in_table, highest, is_said, said_in, look_at, Looks, Fits, value_by, status_by, foremost, shown, list_number, listened}
 use Rattle.engine.proofs.Growing.{highest_most, highest_least, highest_within}
-use Rattle.engine.proofs.Refusing.{status_low, code_low, stands_clean, clean_low, one_code}
+use Rattle.engine.proofs.Refusing.{code_low, stands_clean, clean_low, one_code}
 use Rattle.engine.proofs.Looking.{said_of, sees}
 
 -- ---- the first that is refused

@@ -9,9 +9,7 @@ use lib.Dec.{ltb, eqb}
 use lib.ListN.{get_or}
 use borrow.Author.Tests.{ne_eqb, lt-ltb, le-ltb, ltb-true, not-false}
 use Rattle.rules.specs.declared.Value.{Value}
-use Rattle.rules.specs.declared.Value.TheVariants.{Zero, One, Blank}
 use Rattle.rules.specs.declared.Status.{Status}
-use Rattle.rules.specs.declared.Status.TheVariants.{Undecided, Decided}
 use Rattle.rules.specs.declared.Ballot.{Ballot}
 use Rattle.rules.specs.declared.Head.{Head}
 use Rattle.rules.specs.Below.{first, some}
@@ -21,7 +19,7 @@ use Rattle.rules.specs.Tick.{same_state, differ, own_otherwise, held_otherwise, 
 use Rattle.rules.proofs.Counting.Truth.{Means, never, false_not, not_false as means_false, not_not, means_same, means_as, means_and, means_not, means_eq, and_left, and_right, and_never, or_left_false, or_right_false, or_never}
 use Rattle.rules.proofs.Counting.Below.{NoneBefore, first_le, first_before, first_holds, some_not, not_some, means_some}
 use Rattle.rules.proofs.Counting.Sets.{member_set_of}
-use Rattle.rules.proofs.Meaning.Meanings.{value_back, status_back}
+use Rattle.rules.proofs.Meaning.Meanings.{value_low, status_low, value_back, status_back}
 use Rattle.rules.proofs.Meaning.Accepted.{value_code_back, status_code_back}
 use Rattle.engine.specs.Look.{refused, code, is_within, KnownIn, statuses_of, ballot_by, barred_from, highest, is_of, is_said, listed_in, said_in, Fits}
 use Rattle.engine.proofs.Bounds.{statuses_tell, few}
@@ -83,15 +81,6 @@ module _ (n : ℕ) (l : List ℕ) (i : ℕ) (stands : breaks_rule n l i ≡ fals
   code_low = omega (arith, low_code, code_read)
 
 -- ---- two ballots
-
-pub value_low : (v : Value) → value_code v < 3
-value_low Zero = omega arith
-value_low One = omega arith
-value_low Blank = omega arith
-
-pub status_low : (t : Status) → status_code t < 2
-status_low Undecided = omega arith
-status_low Decided = omega arith
 
 pub means_state : (a b : Ballot) → Means (same_state a b) (code a ≡ code b)
 unfolding same_state

@@ -92,6 +92,7 @@ fn sets_fit(head: Head) -> bool
         & (within(head.zeros, n) & (within(head.ones, n) & within(head.blanks, n)))
 }
 
+#[tactic(auto, unfolding(rules::specs::Head::phase_fits))]
 fn phase_fits(head: Head) -> bool
     ensures { result ≡ phase_fits head }
 {

@@ -24,6 +24,9 @@ pub(crate) fn first_breaking(n: u8, ballots: &[u8], from: usize) -> usize
         .unwrap_or(fives.len())
 }
 
+// Two chains of the library and no function of both: that would take the test as a closure, and a clause
+// on closures is longer than these two.
+//
 // The first ballot under the head's own number that is ahead of the head or unlike it.
 pub(crate) fn first_own_otherwise(head: Head, ballots: &[u8], from: usize) -> usize
     requires from_bound { from ≤ ballots_of ballots.now }
@@ -37,7 +40,8 @@ pub(crate) fn first_own_otherwise(head: Head, ballots: &[u8], from: usize) -> us
         .unwrap_or(fives.len())
 }
 
-// The first ballot of the sender at the phase before an index; the index where there is none.
+// The first ballot of the sender at the phase before an index; the index where there is none. An index, as
+// in the other two and in `offence`: it is what they answer, and a slice of the list would have its own.
 pub(crate) fn first_of(ballots: &[u8], phase: u16, sender: u8, before: usize) -> usize
     requires { before < ballots_of ballots.now }
     ensures { result ≡ first before (is_of ballots.now phase sender) }

@@ -13,7 +13,7 @@ use crate::list::{first_of, otherwise};
 use crate::said::{
     alone, barred_from, has, phase_in, place_in, say_the_same, sender_in, stands, statuses_of,
 };
-use codes::{BALLOT_BYTES, lowest};
+use codes::{BALLOT_BYTES, lowest, member};
 use rules::{Ballot, Head, Status, Value};
 
 // What the first `next` ballots say, none of them refused. `phase`: the highest, the head's own
@@ -84,6 +84,7 @@ impl Look {
         let statuses = statuses_of(class(self.phase));
         let barred = barred_from(head, self.phase);
         let mut listed = self.listed;
+        // By value and status, since a ballot's codes say which of the sets it is: fields would want a `match`.
         let mut said = [
             [self.zeros, self.zeros_decided],
             [self.ones, self.ones_decided],
@@ -177,12 +178,11 @@ impl Look {
 
     // What head s says at the look's phase.
     fn value_by(self, s: u8) -> Value
-        requires { s < 32 }
         ensures { result ≡ value_by self s }
     {
-        if has(self.blanks, s) {
+        if member(self.blanks, s) {
             Value::Blank
-        } else if has(self.ones | self.ones_decided, s) {
+        } else if member(self.ones | self.ones_decided, s) {
             Value::One
         } else {
             Value::Zero
@@ -190,10 +190,9 @@ impl Look {
     }
 
     fn status_by(self, s: u8) -> Status
-        requires { s < 32 }
         ensures { result ≡ status_by self s }
     {
-        if has(self.zeros_decided | self.ones_decided, s) {
+        if member(self.zeros_decided | self.ones_decided, s) {
             Status::Decided
         } else {
             Status::Undecided
@@ -213,6 +212,7 @@ fn is_refused(barred: u32, listed: u32, said: u32, sender: u8) -> bool
 // Whether a ballot of a lower phase than the look's is refused. Only where its sender has sent another
 // one of a lower phase are the earlier ballots searched, and only up to the first of its sender and
 // phase: none before this one is refused, so all of them say the same.
+// The list and the index, for its answer speaks of the ballots before that one.
 fn is_refused_late(elsewhere: u32, head: Head, ballots: &[u8], i: usize) -> bool
     requires fits { Fits head }
     requires i_bound { i < ballots_of ballots.now }

@@ -22,7 +22,8 @@ pub(crate) fn phase_in(five: &[u8; BALLOT_BYTES]) -> u16
     phase_of(five[PHASE_HIGH], five[PHASE_LOW])
 }
 
-// The place of its value and status in a table with a row for each value and a column for each status.
+// The place of its value and status in a table with a row for each value and a column for each status: the
+// codes in its bytes are the indexes, and enums between would be turned back to them.
 pub(crate) fn place_in(five: &[u8; BALLOT_BYTES]) -> (usize, usize)
     requires value_low { get_or five.now 1 0 < 3 }
     requires status_low { get_or five.now 2 0 < 2 }
@@ -99,7 +100,8 @@ pub(crate) fn either(a: u32, b: u32, c: u32) -> u32
     a | (b | c)
 }
 
-// In both, `s < 32` is asked and not a type's: the number comes as a ballot's byte at each call.
+// Here, in `has` and in `is_refused` `s < 32` is asked: a type for it would be made of a ballot's byte at
+// each of their calls, by the same proof.
 pub(crate) fn alone(s: u8) -> u32
     requires { s < 32 }
     ensures { result ≡ alone_of s }

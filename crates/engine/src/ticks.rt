@@ -89,12 +89,14 @@ fn refused(refusal: Refusal, head: Head) -> Result<Head, Refused>
     Err(Refused { refusal, head })
 }
 
+#[tactic(auto, unfolding(rules::specs::Tick::not_list))]
 fn not_list(ballots: &[u8]) -> bool
     ensures { result ≡ not_list ballots.now }
 {
     !(ballots.len() % BALLOT_BYTES == 0) | (LIST_BYTES_MOST < ballots.len())
 }
 
+#[tactic(auto, unfolding(rules::specs::Tick::both_heard))]
 fn both_heard(head: Head) -> bool
     ensures { result ≡ both_heard head }
 {

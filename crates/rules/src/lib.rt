@@ -130,9 +130,9 @@ impl Refusal {
         ensures { result ≡ index_of self }
     {
         match self {
-            Refusal::BreaksRule { index } => index,
-            Refusal::OwnOtherwise { index } => index,
-            Refusal::Contradicts { index } => index,
+            Refusal::BreaksRule { index }
+            | Refusal::OwnOtherwise { index }
+            | Refusal::Contradicts { index } => index,
             _ => 0,
         }
     }

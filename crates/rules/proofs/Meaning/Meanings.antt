@@ -25,6 +25,15 @@ use Rattle.rules.proofs.Counting.Sets.{member_none, means_none, means_any, means
 
 -- ---- codes
 
+pub value_low : (v : Value) → value_code v < 3
+value_low Zero = omega arith
+value_low One = omega arith
+value_low Blank = omega arith
+
+pub status_low : (s : Status) → status_code s < 2
+status_low Undecided = omega arith
+status_low Decided = omega arith
+
 pub value_back : (v : Value) → value_of (value_code v) ≡ v
 unfolding value_of
 value_back Zero = refl

@@ -5,7 +5,6 @@ use mathlib.Core.List.{List}
 use mathlib.Core.Bool.{Bool, true, false, cond}
 use mathlib.Core.Logic.{inl, inr}
 use native.Mathlib.Omega.{arith}
-use lib.Dec.{lit<}
 use borrow.Author.Tests.{eq-eqb, ne_eqb, ltb-true}
 use Rattle.rules.specs.declared.Value.{Value}
 use Rattle.rules.specs.declared.Value.TheVariants.{Zero, One, Blank}
@@ -22,7 +21,7 @@ use Rattle.rules.specs.Tick.{ballots, moved, added, gathered, quorum, majority, 
 use Rattle.rules.specs.Given.{Heads, Obeys, phase_1, phase_2, odd_from_3, even_from_4, Hears, Sound, DecidesOtherwise, Says, HeldOrSent}
 use Rattle.rules.proofs.Counting.Truth.{false_not, not_not}
 use Rattle.rules.proofs.Counting.Counting.{count_within, meet}
-use Rattle.rules.proofs.Meaning.Meanings.{means_value, means_decided, hears_nobody}
+use Rattle.rules.proofs.Meaning.Meanings.{value_low, status_low, means_value, means_decided, hears_nobody}
 use Rattle.rules.proofs.Undivided.TheBit.{bit_code, bit_kept, coin_bit}
 use Rattle.rules.proofs.Meaning.Accepted.{Accepted, value_code_back, start_accepted, tick_accepted}
 use Rattle.rules.proofs.OneTick.Senders.{Moves, stays, copies, moves, gathered_same, heard_from}
@@ -32,15 +31,6 @@ use Rattle.rules.proofs.OneTick.Senders.{Moves, stays, copies, moves, gathered_s
 -- two values that cannot differ are the same
 same_value_lem : (v w : Value) → ((v ≡ w → ⊥) → ⊥) → v ≡ w
 same_value_lem v w = not_not (means_value v w)
-
-value_low : (v : Value) → value_code v < 3
-value_low Zero = lit< tt
-value_low One = lit< tt
-value_low Blank = lit< tt
-
-status_low : (s : Status) → status_code s < 2
-status_low Undecided = lit< tt
-status_low Decided = lit< tt
 
 -- a decided head is at phase 3 or more; a blank is at an even one
 decided_late : {p v : ℕ} → Obeys p v 1 → 3 ≤ p

@@ -3,7 +3,7 @@ use mathlib.Core.Path.{refl, ap₂, ◌∙◌}
 use mathlib.Core.List.{[], ◌∷◌}
 use native.Mathlib.Omega.{arith}
 use Rattle.rules.specs.Ballot.{value_of, status_of}
-use Rattle.engine.proofs.Refusing.{value_low, status_low}
+use Rattle.rules.proofs.Meaning.Meanings.{value_low, status_low}
 use Rattle.engine.proofs.Looking.{five, is_table, table_at}
 use Rattle.engine.proofs.Barred.{barred_ahead, barred_here, not_zero, not_one, not_blank}
 use Rattle.engine.proofs.said.barred_from.Goals as goal
