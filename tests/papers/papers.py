@@ -4,8 +4,7 @@
 
 - A name in backticks is defined somewhere in the tree, `crate::function` in that crate, `Type::method` in a block of
   that type, and `crate::Type::method` in one of that crate; a path is there. Of a formula, a command or a line of
-  output every word occurs in a source, and every path in it is there. The pages on landings may have names that are
-  gone.
+  output every word occurs in a source, and every path in it is there.
 - A name with the ending `..` is the beginning of names that are there.
 - In a table of docs/promises with a column 'File' every definition and theorem of a row stands in a file of that
   row, or on one of the pages; and what a cell of a column 'Code' names, in a file of that cell.
@@ -33,7 +32,6 @@ from tree import PAGES, Tree, text_of
 
 WIDEST = 120
 BOTH = {"docs/PORT.md", "docs/DESIGN-PASS.md"}
-LANDINGS = re.compile(r"docs/changes/W\d+\.md")
 NAME = re.compile(r"[^\W\d][\w'-]*(::\w+){0,2}")
 PATH = re.compile(r"[\w./*-]*(/[\w.*-]+|\.(antt|rt|md|py|c|h|rs|sh|run|edit|txt|svg|out))/?")
 IN_PHRASE = re.compile(r"[\w./*'-]*[^\W\d_][\w./*'-]*")
@@ -58,8 +56,6 @@ def paper_faults(path, texts, tree):
 # ---- names and paths
 
 def name_faults(path, texts, tree):
-    if LANDINGS.fullmatch(path):
-        return []
     prose, code = parts(texts[path])
     faults = [said for span in spans(prose) for said in span_faults(span, tree)]
     return faults + [said for line in code for said in path_faults(line, tree)]
