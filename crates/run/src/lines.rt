@@ -8,7 +8,7 @@ use crate::text::Text;
 use file::{Figures, Refusal};
 use rules::Head;
 
-#[tactic(auto, using(crate::proofs::Texts::word_word), unfolding(crate::proofs::Texts::writing))]
+#[tactic(auto, using(crate::proofs::Texts::word_word, std::proofs::Common::append_assoc), unfolding(crate::proofs::Texts::writing))]
 impl Text {
     pub(crate) fn push_refusal_line(&mut self, refusal: Refusal)
         ensures { self.new ≡ with_word self.old (refusal_line (outcome_read (Err refusal))) }

@@ -23,21 +23,23 @@ pub(crate) fn plan_of(file: &[u8], room: usize) -> Result<Plan, Refusal>
     let coins = coins(file, losses.end(), rounds * n)?;
     let end = coins.end();
     if end < file.len() {
-        let fault = Fault::BytesAfterTheLastSection;
-        return Err(Refusal { fault, place: end });
+        return Err(Refusal {
+            fault: Fault::BytesAfterTheLastSection,
+            place: end,
+        });
     }
     if room < n {
-        let fault = Fault::TableTooShort;
-        return Err(Refusal { fault, place: 0 });
+        return Err(Refusal {
+            fault: Fault::TableTooShort,
+            place: 0,
+        });
     }
-    let losses = losses.start;
-    let coins = coins.start;
     Ok(Plan {
         n,
         needed,
         rounds,
-        losses,
-        coins,
+        losses: losses.start,
+        coins: coins.start,
     })
 }
 
