@@ -16,9 +16,9 @@ pub(crate) fn plan_of(file: &[u8], room: usize) -> Result<Plan, Refusal>
     let proposals = proposals(file)?;
     let n = proposals.length;
     let need = needed(file, proposals.end(), n)?;
-    let needed = byte_at(file, need.start) as usize;
+    let needed = usize::from(byte_at(file, need.start));
     let at = need.end();
-    let rounds = count_at(file, at) as usize;
+    let rounds = usize::from(count_at(file, at));
     let losses = losses(file, at, n)?;
     let coins = coins(file, losses.end(), rounds * n)?;
     let end = coins.end();
