@@ -44,6 +44,7 @@ pub(crate) fn plan_of(file: &[u8], room: usize) -> Result<Plan, Refusal>
 }
 
 // "the loss rows of one round are a part from the middle of the file": of section 3's part.
+// `file, plan`, not a struct of both: see `figures`.
 pub(crate) fn rows_of(file: &[u8], plan: Plan, r: usize) -> &[u8]
     requires { r < plan.rounds }
     ensures { result.now ≡ rows_in file.now (accepted_plan plan) r }

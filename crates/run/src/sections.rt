@@ -28,6 +28,7 @@ pub(crate) fn proposals(file: &[u8]) -> Result<Body, Refusal>
 }
 
 // "Count 1, then k, the heads needed: more than n/2, at most n."
+// `file, at`, not a struct of both: it would be taken apart at each of the four calls in plans.rt.
 pub(crate) fn needed(file: &[u8], at: usize, n: usize) -> Result<Body, Refusal>
     ensures { section_read result ≡ needed_of file.now at n }
 {
@@ -48,6 +49,7 @@ pub(crate) fn needed(file: &[u8], at: usize, n: usize) -> Result<Body, Refusal>
 }
 
 // "Count of rounds, 0 to 256; per round n rows of 4 bytes"
+// At most `heads_most` heads, by a clause: neither a slice nor a number carries an invariant.
 pub(crate) fn losses(file: &[u8], at: usize, n: usize) -> Result<Body, Refusal>
     requires { n ≤ heads_most }
     ensures { section_read result ≡ losses_of file.now at n }
