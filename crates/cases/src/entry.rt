@@ -65,7 +65,7 @@ fn start_record(
 
 // The index is lent with all bits set, so that a call that leaves it alone shows.
 fn tick_record(out: &impl Print, head_record: &mut [u8], list: &[u8], coin: u32) -> Result<()> {
-    let mut index: usize = 18446744073709551615;
+    let mut index: usize = usize::MAX;
     let number = vote::vote_tick(head_record, list, coin, &mut index);
     print_indexed(out, b't', number, index, head_record)
 }

@@ -15,7 +15,7 @@ pub(crate) fn answer_line(out: &impl Print, line: &[u8]) -> Result<()> {
     // No heap: more than any vector has.
     let mut bytes = [0u8; 700];
     match unhex(text, &mut bytes) {
-        Some(digits) if digits % 2 == 0 && digits <= 1400 => {
+        Some(digits) if digits % 2 == 0 && digits <= 2 * bytes.len() => {
             // An entry for C writes to one part of the bytes while it reads another: it gets them twice.
             let mut lent = bytes;
             let count = digits / 2;

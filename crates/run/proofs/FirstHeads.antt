@@ -1,14 +1,15 @@
 -- The bench works on the first heads of a table: it does with them alone what document 01 does in the table, and those
 -- behind them stay as they are.
-use Prim.Native.Nat.{ℕ, zero, suc, ◌+◌, ◌*◌, ◌≤◌, ◌<◌}
+use Prim.Native.Nat.{ℕ, zero, suc, ◌+◌, ◌-◌, ◌*◌, ◌≤◌, ◌<◌}
 use mathlib.Core.Path.{◌≡◌, refl, sym, ap, ap₂, ◌∙◌}
 use mathlib.Core.List.{List, [], ◌∷◌, ◌++◌, map}
 use mathlib.Core.Bool.{Bool, cond}
 use native.Mathlib.Numerals.{add-one}
+use native.Mathlib.Decide.{ℕ_discrete}
 use native.Mathlib.Omega.{arith}
 use lib.ListN.{length, get_or, set, take, drop}
 use Rattle.std.specs.List.{count_by}
-use Rattle.std.proofs.lemmas.List.{take_more, get_or-map, get_or_append_left, set-append_left}
+use Rattle.std.proofs.lemmas.List.{take_more, get_or-map, get_or_append_left, get_or-append_right, set-append_left, length-append}
 use Rattle.std.proofs.lemmas.List.{take_all, length-map, length-take-le, take-append-drop}
 use Rattle.std.proofs.lemmas.List.Sums.{sum_by-append}
 use Rattle.rules.proofs.Counting.Below.{count_le}
@@ -30,6 +31,39 @@ use Rattle.run.specs.Received.{received_from}
 use Rattle.run.proofs.Parts.{byte_of_part}
 use Rattle.run.proofs.Planned.{planned_fits}
 
+-- ---- the first heads
+
+-- the first k heads of a table
+abbrev pub heads_to : ℕ → List Head → List Head
+heads_to zero table = []
+heads_to (suc k) table = heads_to k table ++ head_of table k ∷ []
+
+heads_to_length : (k : ℕ) (table : List Head) → length (heads_to k table) ≡ k
+heads_to_length zero table = refl
+heads_to_length (suc k) table =
+    length-append (heads_to k table) (head_of table k ∷ []) ∙ omega (arith, heads_to_length k table)
+
+-- each of them is at its number
+heads_to_at : (k : ℕ) (table : List Head) (s : ℕ) → s < k → head_of (heads_to k table) s ≡ head_of table s
+heads_to_at zero table s h = absurd (omega arith)
+heads_to_at (suc k) table s h = go (ℕ_discrete s k) (heads_to_at k table s)
+  where
+    long : length (heads_to k table) ≡ k
+    long = heads_to_length k table
+
+    end : List Head
+    end = head_of table k ∷ []
+
+    go : Dec (s ≡ k) → (s < k → head_of (heads_to k table) s ≡ head_of table s)
+        → head_of (heads_to k table ++ end) s ≡ head_of table s
+    go (yes e) f =
+        let first : s - k ≡ 0 = omega (arith, e) in
+        get_or-append_right (heads_to k table) end k s zero_head long (omega (arith, e))
+        ∙ ap (λ (i : ℕ). get_or end i zero_head) first ∙ ap (head_of table) (sym e)
+    go (no e) f =
+        get_or_append_left (heads_to k table) end zero_head s (omega (arith, e, long))
+        ∙ f (omega (arith, e))
+
 -- ---- what a head receives
 
 -- a head's ballot
@@ -50,6 +84,14 @@ same_received heads other lost zero same = refl
 same_received heads other lost (suc k) same =
     ap₂ (λ (list : List ℕ) (head : Head). list ++ cond (lost k) [] (sent_by head))
     (same_received heads other lost k (λ s h. same s (omega arith))) (same k (omega arith))
+
+-- so from the ballots of a table's first heads it receives what it receives from the table's
+received_first : (n : ℕ) (table : List Head) (lost k : ℕ) → k ≤ n
+    → received_from (map sent_by (heads_to n table)) lost k ≡ received (head_of table) (λ s. member s lost) k
+received_first n table lost k h =
+    received_is (heads_to n table) lost k (omega (arith, heads_to_length n table))
+    ∙ same_received (head_of (heads_to n table)) (head_of table) (λ s. member s lost) k
+    (λ s l. heads_to_at n table s (omega arith))
 
 -- ---- placing heads
 
@@ -86,14 +128,14 @@ one_ticked heads so_far sent rows coins lost coin i after before is_sent is_lost
     rw (add-one i, is, before, here, is_lost, is_coin, is_sent, length-map, list) refl
 
 -- a round of the code is a round of document 01
-pub round_is : (rows coins : List ℕ) (heads : List Head)
-    → placed (length heads) (λ i. (tick_of (head_of heads i) (received_from (map sent_by heads) (four_bytes_at rows (i * 4)) (length heads)) (get_or coins i 0)).head) heads
-    ≡ round_in (length heads) rows coins heads
+pub round_is : (n : ℕ) (rows coins : List ℕ) (table : List Head)
+    → placed n (λ i. (tick_of (head_of table i) (received_from (map sent_by (heads_to n table)) (four_bytes_at rows (i * 4)) n) (get_or coins i 0)).head) table
+    ≡ round_in n rows coins table
 unfolding round_in
-round_is rows coins heads =
-    same_placed (length heads) _ (ticked_in (length heads) rows coins heads) heads
-    (λ s h. ap (λ (list : List ℕ). (tick_of (head_of heads s) list (get_or coins s 0)).head)
-    (received_is heads (four_bytes_at rows (s * 4)) (length heads) (omega arith)))
+round_is n rows coins table =
+    same_placed n _ (ticked_in n rows coins table) table
+    (λ s h. ap (λ (list : List ℕ). (tick_of (head_of table s) list (get_or coins s 0)).head)
+    (received_first n table (four_bytes_at rows (s * 4)) n (omega arith)))
 
 -- ---- the bench
 
@@ -125,11 +167,6 @@ rounds-append file plan (suc r) heads rest h =
 -- what a head adds to the code's count
 pub decision_counts : (h : Head) → count_by is_written (h ∷ []) ≡ cond (is_written h) 1 0
 decision_counts h = omega arith
-
--- the first k heads of a table
-abbrev pub heads_to : ℕ → List Head → List Head
-heads_to zero table = []
-heads_to (suc k) table = heads_to k table ++ head_of table k ∷ []
 
 pub survey_counts : (n : ℕ) (table : List Head) → count_by is_written (heads_to n table) ≡ decided_in table n
 unfolding count

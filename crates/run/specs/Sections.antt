@@ -1,10 +1,6 @@
 -- What the section readers hand to one another.
 use Rattle.std.specs.Prelude.{ℕ, ◌+◌, ◌≤◌, ◌≡◌, List, Bool, length, take, drop}
 
--- a row of lost ballots: "4 bytes"
-abbrev pub set_bytes : ℕ
-set_bytes = 4
-
 -- what is answered of a piece of so many bytes is what a test says of the place where it stands in a body
 abbrev pub Tests : ℕ → (List ℕ → Bool → Type 0) → (List ℕ → ℕ → Bool) → Type 0
 Tests width Answers test =

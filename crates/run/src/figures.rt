@@ -12,6 +12,7 @@ use codes::{SET_BYTES, size};
 use file::{Figures, Plan};
 use rules::{Decision, Head};
 
+// `file, plan`, not a struct of both: it would hold a reference and be made for three calls in `bench` only.
 pub(crate) fn figures(file: &[u8], plan: Plan, heads: &[Head]) -> Figures
     ensures { accepted_outcome result ≡ outcome_in file.now (accepted_plan plan) (count_by is_written heads.now) }
 {
@@ -50,6 +51,7 @@ fn good(file: &[u8], plan: Plan) -> usize
 }
 
 // "its lost ballots, of n × n"
+// At most `heads_most` heads, by a clause: neither a slice nor a number carries an invariant.
 #[tactic(auto, unfolding(file::specs::Figures::lost_in), using(rules::proofs::Counting::Sets::size_le))]
 fn lost_in(rows: &[u8], n: usize) -> usize
     requires { n ≤ heads_most }
@@ -69,6 +71,7 @@ fn decided(heads: &[Head]) -> usize
     heads.iter().filter(|head| is_written(**head)).count()
 }
 
+// A second one: the engine's is its own, not public.
 fn is_written(head: Head) -> bool
     ensures { result ≡ is_written head }
 {

@@ -8,12 +8,12 @@ use crate::text::Text;
 use file::{Figures, Refusal};
 use rules::Head;
 
-#[tactic(auto, using(crate::proofs::Texts::word_word), unfolding(crate::proofs::Texts::writing))]
+#[tactic(auto, using(crate::proofs::Texts::word_word, std::proofs::Common::append_assoc), unfolding(crate::proofs::Texts::writing))]
 impl Text {
     pub(crate) fn push_refusal_line(&mut self, refusal: Refusal)
         ensures { self.new ≡ with_word self.old (refusal_line (outcome_read (Err refusal))) }
     {
-        self.push_figure(b"refused ", refusal.number() as usize);
+        self.push_figure(b"refused ", usize::from(refusal.number()));
         self.push_figure(b" at ", refusal.place);
         self.push(b"\n");
     }
@@ -49,7 +49,7 @@ impl Text {
         ensures { self.new ≡ with_word self.old (head_line s head.now) }
     {
         self.push_figure(b"head ", s);
-        self.push_figure(b" phase ", head.phase as usize);
+        self.push_figure(b" phase ", usize::from(head.phase));
         self.push_word(b" value ", head.value);
         self.push_word(b" status ", head.status);
         self.push_word(b" decision ", head.decision);

@@ -1,8 +1,8 @@
 // Parts of bytes, and single bytes of them.
 ghost use Rattle.std.specs.Prelude.{◌≡◌, get_or, take, drop};
 
-// The part of the bytes that stands at an accepted start, of an accepted length; an empty one where the
-// length is 0, as at a refusal. Where there are fewer bytes, as many as there are.
+// The part of the bytes that stands at a start, of a length. Where there are fewer bytes, as many as
+// there are.
 pub(crate) fn part(bytes: &[u8], start: usize, length: usize) -> &[u8]
     ensures { result.now ≡ take length (drop start bytes.now) }
 {

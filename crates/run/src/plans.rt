@@ -16,32 +16,35 @@ pub(crate) fn plan_of(file: &[u8], room: usize) -> Result<Plan, Refusal>
     let proposals = proposals(file)?;
     let n = proposals.length;
     let need = needed(file, proposals.end(), n)?;
-    let needed = byte_at(file, need.start) as usize;
+    let needed = usize::from(byte_at(file, need.start));
     let at = need.end();
-    let rounds = count_at(file, at) as usize;
+    let rounds = usize::from(count_at(file, at));
     let losses = losses(file, at, n)?;
     let coins = coins(file, losses.end(), rounds * n)?;
     let end = coins.end();
     if end < file.len() {
-        let fault = Fault::BytesAfterTheLastSection;
-        return Err(Refusal { fault, place: end });
+        return Err(Refusal {
+            fault: Fault::BytesAfterTheLastSection,
+            place: end,
+        });
     }
     if room < n {
-        let fault = Fault::TableTooShort;
-        return Err(Refusal { fault, place: 0 });
+        return Err(Refusal {
+            fault: Fault::TableTooShort,
+            place: 0,
+        });
     }
-    let losses = losses.start;
-    let coins = coins.start;
     Ok(Plan {
         n,
         needed,
         rounds,
-        losses,
-        coins,
+        losses: losses.start,
+        coins: coins.start,
     })
 }
 
 // "the loss rows of one round are a part from the middle of the file": of section 3's part.
+// `file, plan`, not a struct of both: see `figures`.
 pub(crate) fn rows_of(file: &[u8], plan: Plan, r: usize) -> &[u8]
     requires { r < plan.rounds }
     ensures { result.now ≡ rows_in file.now (accepted_plan plan) r }

@@ -24,10 +24,11 @@ pub(crate) fn proposals(file: &[u8]) -> Result<Body, Refusal>
     ensures { section_read result ≡ proposals_of file.now }
 {
     let n = count_at(file, 0);
-    section(file, 0, not_heads(n as u32), n as usize, 1, not_bit)
+    section(file, 0, not_heads(u32::from(n)), usize::from(n), 1, not_bit)
 }
 
 // "Count 1, then k, the heads needed: more than n/2, at most n."
+// `file, at`, not a struct of both: it would be taken apart at each of the four calls in plans.rt.
 pub(crate) fn needed(file: &[u8], at: usize, n: usize) -> Result<Body, Refusal>
     ensures { section_read result ≡ needed_of file.now at n }
 {
@@ -41,18 +42,19 @@ pub(crate) fn needed(file: &[u8], at: usize, n: usize) -> Result<Body, Refusal>
         |need: &[u8]|
             ensures { result ≡ not_need n need.now 0 }
         {
-            let k = byte_at(need, 0) as usize;
+            let k = usize::from(byte_at(need, 0));
             k * 2 <= n || n < k
         },
     )
 }
 
 // "Count of rounds, 0 to 256; per round n rows of 4 bytes"
+// At most `heads_most` heads, by a clause: neither a slice nor a number carries an invariant.
 pub(crate) fn losses(file: &[u8], at: usize, n: usize) -> Result<Body, Refusal>
     requires { n ≤ heads_most }
     ensures { section_read result ≡ losses_of file.now at n }
 {
-    let rounds = count_at(file, at) as usize;
+    let rounds = usize::from(count_at(file, at));
     let size = rounds * n * SET_BYTES;
     let heads = n as u32;
     section(
@@ -71,7 +73,7 @@ pub(crate) fn losses(file: &[u8], at: usize, n: usize) -> Result<Body, Refusal>
 pub(crate) fn coins(file: &[u8], at: usize, count: usize) -> Result<Body, Refusal>
     ensures { section_read result ≡ coins_of file.now at count }
 {
-    let read = count_at(file, at) as usize;
+    let read = usize::from(count_at(file, at));
     section(file, at, read != count, count, 1, not_bit)
 }
 

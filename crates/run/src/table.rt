@@ -42,6 +42,7 @@ pub fn run_file(file: &[u8]) -> Benched
 }
 
 // Starts each head with its proposal, a byte of section 1's part.
+// At most `heads_most` heads, by a clause here and in `round`: a slice carries no invariant.
 #[tactic(auto, unfolding(file::specs::Table::placed))]
 fn start_all(heads: &mut [Head], proposals: &[u8])
     requires { length heads.old ≤ heads_most }

@@ -4,7 +4,7 @@ use Rattle.rules.specs.Ballot.{bytes_of}
 use Rattle.rules.specs.Head.{zero_head}
 use Rattle.run.proofs.heads.ballots_of.Goals as goal
 
--- written out, though the check finds it: so an edit is refused at the two terms that differ
+-- written out, though the check finds it: so the edit note_sender_of_the_place_before is refused at the sender field
 pub loop-i-preserved : goal.loop-i-preserved
 loop-i-preserved c = record {
   room = rw length-set c.loop-i.invariant.room;

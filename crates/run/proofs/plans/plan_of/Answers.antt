@@ -29,7 +29,7 @@ returns-in_err-losses c =
 pub overflow_mul-rounds : goal.overflow_mul-rounds
 overflow_mul-rounds c =
     let a = proposals_body c.args.file.now _ _ (sym c.in_ok-proposals.ensures) in
-    let many : c.count_at-rounds.result ≤ 65535 = omega arith in
+    let many : c.from-rounds.result ≤ 65535 = omega (arith, c.from-rounds.ensures) in
     let few : c.in_ok-proposals.proposals.length ≤ 32 = omega (arith, a.heads) in
     record { fits = omega (arith, mul-le-mul many few) }
 
@@ -37,23 +37,23 @@ pub returns-in_err-coins : goal.returns-in_err-coins
 returns-in_err-coins c =
     refused_read _ c.in_err-coins.field-0.0 c.from_residual-in_err-coins.ensures.1
     ∙ refused_4 c.args.file.now c.args.room c.in_ok-proposals.ensures c.end.ensures c.in_ok-need.ensures c.end-at.ensures
-    c.in_ok-losses.ensures c.end-2.ensures c.count_at-rounds.ensures _ _ c.in_err-coins.ensures
+    c.in_ok-losses.ensures c.end-2.ensures (c.from-rounds.ensures ∙ c.count_at.ensures) _ _ c.in_err-coins.ensures
 
 pub returns-then-end-file : goal.returns-then-end-file
 returns-then-end-file c =
     refused_15 c.args.file.now c.args.room c.in_ok-proposals.ensures c.end.ensures c.in_ok-need.ensures c.end-at.ensures
-    c.in_ok-losses.ensures c.end-2.ensures c.count_at-rounds.ensures c.in_ok-coins.ensures c.end-end.ensures c.byte_at-needed.ensures c.if-end-file.true
+    c.in_ok-losses.ensures c.end-2.ensures (c.from-rounds.ensures ∙ c.count_at.ensures) c.in_ok-coins.ensures c.end-end.ensures (c.from-needed.ensures ∙ c.byte_at.ensures) c.if-end-file.true
 
 pub returns-then-room-n : goal.returns-then-room-n
 returns-then-room-n c =
     refused_16 c.args.file.now c.args.room c.in_ok-proposals.ensures c.end.ensures c.in_ok-need.ensures c.end-at.ensures
-    c.in_ok-losses.ensures c.end-2.ensures c.count_at-rounds.ensures c.in_ok-coins.ensures c.end-end.ensures c.byte_at-needed.ensures c.if-end-file.false
+    c.in_ok-losses.ensures c.end-2.ensures (c.from-rounds.ensures ∙ c.count_at.ensures) c.in_ok-coins.ensures c.end-end.ensures (c.from-needed.ensures ∙ c.byte_at.ensures) c.if-end-file.false
     c.if-room-n.true
 
 pub invariant_of-result : goal.invariant_of-result
 invariant_of-result c =
     let is = accepts c.args.file.now c.args.room c.in_ok-proposals.ensures c.end.ensures c.in_ok-need.ensures c.end-at.ensures
-    c.in_ok-losses.ensures c.end-2.ensures c.count_at-rounds.ensures c.in_ok-coins.ensures c.end-end.ensures c.byte_at-needed.ensures c.if-end-file.false
+    c.in_ok-losses.ensures c.end-2.ensures (c.from-rounds.ensures ∙ c.count_at.ensures) c.in_ok-coins.ensures c.end-end.ensures (c.from-needed.ensures ∙ c.byte_at.ensures) c.if-end-file.false
     c.if-room-n.false in
     let small = subst (Fits c.args.room) (sym is) (planned_fits c.args.file.now c.args.room) in
     record { few_heads = small.few_heads; need_among_them = small.need_among_them; few_rounds = small.few_rounds }
@@ -61,5 +61,5 @@ invariant_of-result c =
 pub returns : goal.returns
 returns c =
     accepts c.args.file.now c.args.room c.in_ok-proposals.ensures c.end.ensures c.in_ok-need.ensures c.end-at.ensures
-    c.in_ok-losses.ensures c.end-2.ensures c.count_at-rounds.ensures c.in_ok-coins.ensures c.end-end.ensures c.byte_at-needed.ensures c.if-end-file.false
+    c.in_ok-losses.ensures c.end-2.ensures (c.from-rounds.ensures ∙ c.count_at.ensures) c.in_ok-coins.ensures c.end-end.ensures (c.from-needed.ensures ∙ c.byte_at.ensures) c.if-end-file.false
     c.if-room-n.false

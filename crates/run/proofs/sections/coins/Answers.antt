@@ -9,4 +9,4 @@ unfolding coins_of
 returns c =
     let count = c.args.count in
     c.section.ensures not_bit (λ body at answer inside r. bit_of body _ at answer r.says.met r.shows)
-    ∙ ap (λ (k : ℕ). section_at c.args.file.now c.args.at (not (eqb k count)) count 1 not_bit) c.count_at-read.ensures
+    ∙ ap (λ (k : ℕ). section_at c.args.file.now c.args.at (not (eqb k count)) count 1 not_bit) (c.from-read.ensures ∙ c.count_at.ensures)

@@ -12,4 +12,4 @@ returns c =
     c.section.ensures (not_row n) (λ body at answer inside r.
     r.says.met ∙ ap (λ (piece : List ℕ). not_row n piece 0) r.shows
     ∙ ap (λ (row : ℕ). not (within n row)) (row_of body at))
-    ∙ ap (λ (k : ℕ). section_at c.args.file.now c.args.at (ltb 256 k) (k * n * 4) 4 (not_row n)) c.count_at-rounds.ensures
+    ∙ ap (λ (k : ℕ). section_at c.args.file.now c.args.at (ltb 256 k) (k * n * 4) 4 (not_row n)) (c.from-rounds.ensures ∙ c.count_at.ensures)
