@@ -1,23 +1,26 @@
 -- The bench works on the first heads of a table: it does with them alone what document 01 does in the table, and those
 -- behind them stay as they are.
 use Prim.Native.Nat.{ℕ, zero, suc, ◌+◌, ◌-◌, ◌*◌, ◌≤◌, ◌<◌}
-use mathlib.Core.Path.{◌≡◌, refl, sym, ap, ap₂, ◌∙◌}
-use mathlib.Core.List.{List, [], ◌∷◌, ◌++◌, map}
+use mathlib.Core.Path.{◌≡◌, refl, sym, ap, ap₂, ◌∙◌, fun_ext}
+use mathlib.Core.List.{List, [], ◌∷◌, ◌++◌, map, append-nil}
 use mathlib.Core.Bool.{Bool, cond}
 use native.Mathlib.Numerals.{add-one}
 use native.Mathlib.Decide.{ℕ_discrete}
 use native.Mathlib.Omega.{arith}
 use lib.ListN.{length, get_or, set, take, drop}
-use Rattle.std.specs.List.{count_by}
+use lib.Dec.{ltb}
+use Rattle.std.specs.List.{sum_by, count_by}
 use Rattle.std.proofs.lemmas.List.{take_more, get_or-map, get_or_append_left, get_or-append_right, set-append_left, length-append}
 use Rattle.std.proofs.lemmas.List.{take_all, length-map, length-take-le, take-append-drop}
 use Rattle.std.proofs.lemmas.List.Sums.{sum_by-append}
 use Rattle.rules.proofs.Counting.Below.{count_le}
+use Rattle.rules.specs.declared.Decision.{Decision}
+use Rattle.rules.specs.declared.Decision.TheVariants.{Zero, One, Unwritten}
 use Rattle.rules.specs.declared.Head.{Head}
 use Rattle.rules.specs.Below.{count}
 use Rattle.rules.specs.Ballot.{bytes_of}
 use Rattle.rules.specs.Heard.{member}
-use Rattle.rules.specs.Head.{zero_head, start_of, ballot_of, is_written}
+use Rattle.rules.specs.Head.{zero_head, start_of, ballot_of, decision_code, is_written}
 use Rattle.rules.specs.Record.{four_bytes_at}
 use Rattle.rules.specs.Round.{received}
 use Rattle.rules.specs.Tick.{tick_of}
@@ -26,7 +29,7 @@ use Rattle.file.specs.Table.{head_of, placed, rows_in, coins_in, ticked_in, roun
 use Rattle.file.specs.Table.{table_after}
 use Rattle.file.specs.Figures.{decided_in, outcome_of}
 use Rattle.file.proofs.Running.Placing.{placed_length, placed_rest, rounds_length}
-use Rattle.run.specs.Figures.{outcome_in}
+use Rattle.run.specs.Figures.{outcome_in, one_if_written}
 use Rattle.run.specs.Received.{received_from}
 use Rattle.run.proofs.Parts.{byte_of_part}
 use Rattle.run.proofs.Planned.{planned_fits}
@@ -63,6 +66,19 @@ heads_to_at (suc k) table s h = go (ℕ_discrete s k) (heads_to_at k table s)
     go (no e) f =
         get_or_append_left (heads_to k table) end zero_head s (omega (arith, e, long))
         ∙ f (omega (arith, e))
+
+heads_to_are : (heads rest : List Head) (n : ℕ) → n ≤ length heads → heads_to n (heads ++ rest) ≡ take n heads
+heads_to_are heads rest zero h = refl
+heads_to_are heads rest (suc k) h =
+    ap₂ (λ (l : List Head) (x : Head). l ++ x ∷ []) (heads_to_are heads rest k (omega arith)) (get_or_append_left heads rest zero_head k h)
+    ∙ sym (ap (λ (n : ℕ). take n heads) (sym (add-one k)) ∙ take_more heads k zero_head h)
+
+-- all of them
+heads_to_all : (heads : List Head) → heads_to (length heads) heads ≡ heads
+heads_to_all heads =
+    ap (heads_to (length heads)) (sym (append-nil heads))
+    ∙ heads_to_are heads [] (length heads) (omega arith)
+    ∙ take_all (length heads) heads (omega arith)
 
 -- ---- what a head receives
 
@@ -111,31 +127,43 @@ placed-append (suc k) f heads rest h =
     ap (λ (t : List Head). set t k (f k)) (placed-append k f heads rest (omega arith))
     ∙ set-append_left (placed k f heads) rest k (f k) (omega (arith, placed_length k f heads))
 
--- one more head ticked
-pub one_ticked : (heads so_far : List Head) (sent : List (List ℕ)) (rows coins : List ℕ) (lost coin i : ℕ)
-    (after : Head)
-    → so_far ≡ placed i (ticked_in (length heads) rows coins heads) heads
-    → sent ≡ map (λ head. bytes_of (ballot_of head)) heads
-    → lost ≡ four_bytes_at rows (i * 4) → coin ≡ get_or coins i 0
-    → after ≡ (tick_of (head_of so_far i) (received_from sent lost (length sent)) coin).head
-    → set so_far i after ≡ placed (i + 1) (ticked_in (length heads) rows coins heads) heads
-unfolding placed
-one_ticked heads so_far sent rows coins lost coin i after before is_sent is_lost is_coin is =
-    let n = length heads in
-    let here : head_of (placed i (ticked_in n rows coins heads) heads) i ≡ head_of heads i =
-    placed_rest i _ heads i (omega arith) in
-    let list = received_is heads (four_bytes_at rows (i * 4)) n (omega arith) in
-    rw (add-one i, is, before, here, is_lost, is_coin, is_sent, length-map, list) refl
+-- head i of a table as the code ticks it: with what it receives of the senders' ballots
+abbrev pub ticked_from : ℕ → List ℕ → List ℕ → List Head → List Head → ℕ → Head
+ticked_from n rows coins senders table i =
+    (tick_of (head_of table i) (received_from (map sent_by senders) (four_bytes_at rows (i * 4)) n) (get_or coins i 0)).head
 
 -- a round of the code is a round of document 01
 pub round_is : (n : ℕ) (rows coins : List ℕ) (table : List Head)
-    → placed n (λ i. (tick_of (head_of table i) (received_from (map sent_by (heads_to n table)) (four_bytes_at rows (i * 4)) n) (get_or coins i 0)).head) table
+    → placed n (ticked_from n rows coins (heads_to n table) table) table
     ≡ round_in n rows coins table
 unfolding round_in
 round_is n rows coins table =
     same_placed n _ (ticked_in n rows coins table) table
     (λ s h. ap (λ (list : List ℕ). (tick_of (head_of table s) list (get_or coins s 0)).head)
     (received_first n table (four_bytes_at rows (s * 4)) n (omega arith)))
+
+-- one more head ticked
+pub one_ticked : (heads so_far : List Head) (sent : List (List ℕ)) (rows coins : List ℕ) (lost coin i : ℕ)
+    (after : Head)
+    → so_far ≡ placed i (ticked_from (length heads) rows coins heads heads) heads
+    → sent ≡ map (λ head. bytes_of (ballot_of head)) heads
+    → lost ≡ four_bytes_at rows (i * 4) → coin ≡ get_or coins i 0
+    → after ≡ (tick_of (head_of so_far i) (received_from sent lost (length sent)) coin).head
+    → set so_far i after ≡ placed (i + 1) (ticked_from (length heads) rows coins heads heads) heads
+unfolding placed
+one_ticked heads so_far sent rows coins lost coin i after before is_sent is_lost is_coin is =
+    let here : head_of (placed i (ticked_from (length heads) rows coins heads heads) heads) i ≡ head_of heads i =
+    placed_rest i _ heads i (omega arith) in
+    rw (add-one i, is, before, here, is_lost, is_coin, is_sent, length-map) refl
+
+-- and all of them
+pub all_ticked : (rows coins : List ℕ) (heads : List Head) (k : ℕ) → k ≡ length heads
+    → placed k (ticked_from (length heads) rows coins heads heads) heads ≡ round_in (length heads) rows coins heads
+all_ticked rows coins heads k all =
+    let n = length heads in
+    rw all
+    (ap (λ (senders : List Head). placed n (ticked_from n rows coins senders heads) heads) (sym (heads_to_all heads))
+    ∙ round_is n rows coins heads)
 
 -- ---- the bench
 
@@ -164,30 +192,37 @@ rounds-append file plan (suc r) heads rest h =
 
 -- ---- the written decisions
 
--- what a head adds to the code's count
-pub decision_counts : (h : Head) → count_by is_written (h ∷ []) ≡ cond (is_written h) 1 0
-decision_counts h = omega arith
+-- what a head adds
+abbrev pub added : Head → ℕ
+added head = one_if_written head.decision
 
-pub survey_counts : (n : ℕ) (table : List Head) → count_by is_written (heads_to n table) ≡ decided_in table n
+pub decision_counts : (h : Head) → one_if_written h.decision ≡ cond (is_written h) 1 0
+decision_counts h = go h.decision
+  where
+    go : (d : Decision) → one_if_written d ≡ cond (ltb (decision_code d) 2) 1 0
+    go Zero = refl
+    go One = refl
+    go Unwritten = refl
+
+pub survey_counts : (n : ℕ) (table : List Head) → sum_by added (heads_to n table) ≡ decided_in table n
 unfolding count
 survey_counts zero table = refl
 survey_counts (suc k) table =
-    sum_by-append (λ (h : Head). cond (is_written h) 1 0) (heads_to k table) (head_of table k ∷ [])
-    ∙ ap₂ (λ (a b : ℕ). a + b) (survey_counts k table) (decision_counts (head_of table k))
+    sum_by-append added (heads_to k table) (head_of table k ∷ [])
+    ∙ ap₂ (λ (a b : ℕ). a + b) (survey_counts k table) (omega (arith, decision_counts (head_of table k)))
 
-pub survey_decided : (k : ℕ) (table : List Head) → count_by is_written (heads_to k table) ≤ k
+pub survey_decided : (k : ℕ) (table : List Head) → sum_by added (heads_to k table) ≤ k
 survey_decided k table = omega (arith, survey_counts k table, count_le k (λ s. is_written (head_of table s)))
 
-heads_to_are : (heads rest : List Head) (n : ℕ) → n ≤ length heads → heads_to n (heads ++ rest) ≡ take n heads
-heads_to_are heads rest zero h = refl
-heads_to_are heads rest (suc k) h =
-    ap₂ (λ (l : List Head) (x : Head). l ++ x ∷ []) (heads_to_are heads rest k (omega arith)) (get_or_append_left heads rest zero_head k h)
-    ∙ sym (ap (λ (n : ℕ). take n heads) (sym (add-one k)) ∙ take_more heads k zero_head h)
-
 decided_is : (heads rest : List Head) (n : ℕ) → n ≤ length heads
-    → decided_in (heads ++ rest) n ≡ count_by is_written (take n heads)
+    → decided_in (heads ++ rest) n ≡ sum_by added (take n heads)
 decided_is heads rest n h =
-    sym (survey_counts n (heads ++ rest)) ∙ ap (count_by is_written) (heads_to_are heads rest n h)
+    sym (survey_counts n (heads ++ rest)) ∙ ap (sum_by added) (heads_to_are heads rest n h)
+
+-- so what the heads add is how many of them have a written decision
+pub added_counts : (heads : List Head) → sum_by added heads ≡ count_by is_written heads
+added_counts heads =
+    ap (λ (test : Head → ℕ). sum_by test heads) (fun_ext decision_counts)
 
 -- the heads are as many as the plan says
 pub heads_are : (file : List ℕ) (table : List Head) (plan : Plan) → plan ≡ plan_of file (length table)
@@ -240,11 +275,11 @@ module _ (file : List ℕ) (table begun last : List Head) (proposals : List ℕ)
       ∙ ap (λ (p : Plan). rounds_in file p p.rounds (starts_in file p.n table)) is
 
   -- and the answer
-  pub answer_is : outcome_in file plan (count_by is_written last) ≡ outcome_of file table
+  pub answer_is : outcome_in file plan (sum_by added last) ≡ outcome_of file table
   unfolding outcome_of
   answer_is =
       ap (λ (decided : ℕ). outcome_in file plan decided)
-      (ap (count_by is_written) (sym (take_all plan.n last (omega (arith, many_last))))
+      (ap (sum_by added) (sym (take_all plan.n last (omega (arith, many_last))))
       ∙ sym (decided_is last rest plan.n (omega (arith, many_last)))
       ∙ ap (λ (t : List Head). decided_in t plan.n) table_is)
       ∙ ap (λ (p : Plan). outcome_in file p (decided_in (table_after file table) p.n)) is

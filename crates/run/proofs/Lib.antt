@@ -4,5 +4,6 @@ pub mod Parts
 pub mod Pieces
 pub mod Planning
 pub mod Planned
+pub mod Received
 pub mod Reports
 pub mod Texts

@@ -18,7 +18,7 @@ use Rattle.run.proofs.Planned.{planned_fits}
 use Rattle.run.proofs.Texts.{word_word, report_short}
 
 -- a vote in the table of 32 has at most 32 heads
-benched_few : (file : List ℕ) → (benched_of file).outcome.n ≤ 32
+pub benched_few : (file : List ℕ) → (benched_of file).outcome.n ≤ 32
 unfolding outcome_of
 benched_few file = (planned_fits file 32).among_room
 
@@ -59,12 +59,12 @@ module _ (file : List ℕ) (done : Benched) (is : done ≡ benched_of file) wher
       ap (λ (d : Benched). with_word [] (lines_of d)) is
       ∙ with_short (report_of file) (report_short file (benched_few file))
 
-  refusal_is_report : (o.number ≡ 0 → ⊥) → with_word [] (refusal_line o) ≡ report_of file
+  pub refusal_is_report : (o.number ≡ 0 → ⊥) → with_word [] (refusal_line o) ≡ report_of file
   refusal_is_report refused =
       ap (λ (t : Bool). with_word [] (cond t (first_line o ++ lines ++ last_line o) (refusal_line o))) (sym (ne_eqb o.number 0 refused))
       ∙ lines_are_report
 
-  lines_report : o.number ≡ 0 → length done.heads ≡ 32
+  pub lines_report : o.number ≡ 0 → length done.heads ≡ 32
       → with_word (with_word (with_word [] (first_line o)) (head_lines (length (take o.n done.heads)) (take o.n done.heads)))
       (last_line o) ≡ report_of file
   lines_report accepted long =

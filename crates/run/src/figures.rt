@@ -1,10 +1,11 @@
 // The figures of a run: the bound, the good rounds and the written decisions, and the answer with them.
-ghost use Rattle.std.specs.Prelude.{◌≡◌, ◌≤◌, count_by};
+ghost use Rattle.std.specs.Prelude.{◌≡◌, ◌≤◌};
+ghost use Rattle.std.specs.List.{sum_by};
 ghost use Rattle.rules.specs.Sizes.{heads_most};
 ghost use Rattle.rules.specs.Head.{is_written};
 ghost use Rattle.file.specs.Plan.{accepted_plan};
 ghost use Rattle.file.specs.Figures.{accepted_outcome, lost_in, bound_of, good_in};
-ghost use Rattle.run.specs.Figures.{outcome_in};
+ghost use Rattle.run.specs.Figures.{outcome_in, one_if_written};
 
 use crate::plans::rows_of;
 use crate::sections::row_at;
@@ -14,7 +15,8 @@ use rules::{Decision, Head};
 
 // `file, plan`, not a struct of both: it would hold a reference and be made for three calls in `bench` only.
 pub(crate) fn figures(file: &[u8], plan: Plan, heads: &[Head]) -> Figures
-    ensures { accepted_outcome result ≡ outcome_in file.now (accepted_plan plan) (count_by is_written heads.now) }
+    ensures { accepted_outcome result ≡ outcome_in file.now (accepted_plan plan)
+        (sum_by (λ head. one_if_written head.decision) heads.now) }
 {
     Figures {
         n: plan.n,
@@ -65,8 +67,9 @@ fn lost_in(rows: &[u8], n: usize) -> usize
 }
 
 // W2: "The last figure counts heads whose decision is written."
+#[tactic(auto, using(crate::proofs::FirstHeads::added_counts))]
 fn decided(heads: &[Head]) -> usize
-    ensures { result ≡ count_by is_written heads.now }
+    ensures { result ≡ sum_by (λ head. one_if_written head.decision) heads.now }
 {
     heads.iter().filter(|head| is_written(**head)).count()
 }

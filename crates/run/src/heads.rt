@@ -1,12 +1,14 @@
 // What the heads send in a round, and one head's tick with what it receives.
-ghost use Rattle.std.specs.Prelude.{◌≡◌, ◌≤◌, length, take, map};
+ghost use Rattle.std.specs.Prelude.{◌≡◌, ◌≤◌, ◌<◌, ◌&&◌, true, not, eqb, length, take, map};
+ghost use Rattle.std.specs.List.{flat_map};
 ghost use Rattle.rules.specs.Sizes.{heads_most};
 ghost use Rattle.rules.specs.Ballot.{bytes_of};
 ghost use Rattle.rules.specs.Head.{ballot_of};
+ghost use Rattle.rules.specs.Heard.{member as member_of, set_of};
 ghost use Rattle.rules.specs.Tick.{tick_of};
 ghost use Rattle.run.specs.Received.{received_from};
 
-use codes::{BALLOT_BYTES, HEADS_MOST, ballot_bytes};
+use codes::{BALLOT_BYTES, HEADS_MOST, ballot_bytes, lowest};
 use engine::{own_ballot, tick};
 use rules::{Head, Refused};
 
@@ -29,16 +31,45 @@ pub(crate) fn ticked(head: Head, sent: &[[u8; BALLOT_BYTES]], lost: u32, coin: u
     requires { length sent.now ≤ heads_most }
     ensures { result ≡ (tick_of head (received_from sent.now lost (length sent.now)) coin).head }
 {
-    // An array and a count: each ballot is written and then kept or not, which no `push` does.
+    if lost == 0 {
+        return ticked_with(head, sent, coin);
+    }
+    // An array and a count: each ballot is written to its place by number, and `push` would ask for room.
     let mut received = [[0; BALLOT_BYTES]; HEADS_MOST as usize];
     let mut count = 0;
-    for (sender, ballot) in sent.iter().enumerate() {
-        // The next one overwrites a lost one: with an `if` whole runs took up to 1.4 times as long.
-        received[count] = *ballot;
-        // Not `codes::member`: its test `s < 32` put a file with no loss at 1.53 times the C; the aim is 1.5.
-        count += usize::from((lost >> sender) % 2 == 0);
+    let mut left = others(lost);
+    let mut sender = lowest(left) as usize;
+    while sender < sent.len() {
+        received[count] = sent[sender];
+        count += 1;
+        left = without(left, sender);
+        sender = lowest(left) as usize;
     }
-    match tick(head, received[..count].as_flattened(), u32::from(coin)) {
+    ticked_with(head, &received[..count], coin)
+}
+
+// Ticked with these ballots, one after the other.
+fn ticked_with(head: Head, ballots: &[[u8; BALLOT_BYTES]], coin: u8) -> Head
+    requires { length ballots.now ≤ heads_most }
+    ensures { result ≡ (tick_of head (flat_map (λ ballot. ballot) ballots.now) coin).head }
+{
+    match tick(head, ballots.as_flattened(), u32::from(coin)) {
         Ok(head) | Err(Refused { head, .. }) => head,
     }
+}
+
+// The heads that are not in the set.
+fn others(set: u32) -> u32
+    ensures { result ≡ set_of heads_most (λ s. not (member_of s set)) }
+{
+    !set
+}
+
+// The set without one of its heads.
+fn without(set: u32, s: usize) -> u32
+    requires s_lt_heads_most { s < heads_most }
+    requires set_value { member_of s set ≡ true }
+    ensures { result ≡ set_of heads_most (λ t. member_of t set && not (eqb s t)) }
+{
+    set - (1u32 << s)
 }

@@ -56,7 +56,7 @@ fn start_all(heads: &mut [Head], proposals: &[u8])
 }
 
 // "A round: all n ballots are formed first, then each head in number order is ticked".
-#[tactic(auto, unfolding(file::specs::Table::placed, file::specs::Table::round_in))]
+#[tactic(auto, unfolding(file::specs::Table::placed))]
 fn round(heads: &mut [Head], rows: &[u8], coins: &[u8])
     requires { length heads.old ≤ heads_most }
     ensures { heads.new ≡ round_in (length heads.old) rows.now coins.now heads.old }

@@ -1,33 +1,30 @@
-use Rattle.std.proofs.Common.{◌≡◌, ◌<◌, ◌≤◌, ◌++◌, ◌+◌, ◌/◌, ◌%◌, ◌^◌, ℕ, zero, suc, List, [], Bool, true, false, refl, length, take, set, get_or, sym, ap, ◌∙◌, length-set, add-one, add-zero, append-nil, arith}
-use Rattle.std.specs.List.{flat_map}
-use Rattle.std.proofs.lemmas.List.{take_more_set, take-set-le, flat_map_more}
-use lib.Dec.{eqb}
-use mir.Val.{bool_byte}
-use Rattle.run.specs.Received.{received_from}
+use Rattle.std.proofs.Common.{refl, sym, ◌∙◌, length-take-le, arith}
+use Rattle.run.proofs.Received.{none_kept, one_kept, next_present, next_later, within, all_received}
 use Rattle.run.proofs.heads.ticked.Goals as goal
 
-few : (n : ℕ) (t : Bool) → n ≡ bool_byte t → n ≤ 1
-few n true is = omega arith
-few n false is = omega arith
+pub returns-then-lost-eq0 : goal.returns-then-lost-eq0
+returns-then-lost-eq0 c =
+    c.ticked_with.ensures ∙ rw (c.if-lost-eq0.true, all_received c.args.sent.now) refl
 
-module _ (sent list : List (List ℕ)) (lost s count : ℕ) (room : count < length list)
-    (so_far : flat_map (λ ballot. ballot) (take count list) ≡ received_from sent lost s) where
-  -- after sender s, by its digit in the row
-  one_more : (digit : ℕ) → digit < 2 → digit ≡ lost / 2 ^ s % 2
-      → flat_map (λ ballot. ballot) (take (count + bool_byte (eqb digit 0)) (set list count (get_or sent s [])))
-      ≡ received_from sent lost (s + 1)
-  one_more zero low is =
-      rw (add-one s, ← is, take_more_set list count (get_or sent s []) room)
-      (sym (flat_map_more (λ (ballot : List ℕ). ballot) [] (take count list) (get_or sent s []))
-      ∙ ap (λ (bytes : List ℕ). bytes ++ get_or sent s []) so_far)
-  one_more (suc zero) low is =
-      rw (add-one s, ← is, append-nil, add-zero, take-set-le count list count (get_or sent s []) (omega arith)) so_far
-  one_more (suc (suc digit)) low is = absurd (omega arith)
+pub loop-sender-init : goal.loop-sender-init
+loop-sender-init c = none_kept _ _ _ _ (omega arith) c.others-left.ensures c.lowest-sender.ensures
+
+pub without-left-requires-clause-set_value : goal.without-left-requires-clause-set_value
+without-left-requires-clause-set_value c =
+    next_present _ _ _ _ _ _ (omega arith) c.loop-sender.invariant c.loop-sender-test.true
+
+pub loop-sender-smaller : goal.loop-sender-smaller
+loop-sender-smaller c =
+    let later = next_later _ _ _ _ c.without-left.ensures c.lowest-sender-in-loop-sender.ensures c.loop-sender.invariant.4 (omega (arith, c.loop-sender-test.true)) in
+    omega (arith, later)
 
 pub loop-sender-preserved : goal.loop-sender-preserved
-loop-sender-preserved c = record {
-  within = omega (arith, few _ _ c.from-count.ensures);
-  room = rw length-set c.loop-sender.invariant.room;
-  so_far = rw c.from-count.ensures
-      (one_more _ _ _ _ c.loop-sender.count (omega arith) c.loop-sender.invariant.so_far _ (omega arith) refl);
-}
+loop-sender-preserved c =
+    one_kept _ _ _ _ _ _ _ _ (omega arith) c.loop-sender.invariant c.loop-sender-test.true c.without-left.ensures
+    c.lowest-sender-in-loop-sender.ensures
+
+pub slice_bounds-received-end : goal.slice_bounds-received-end
+slice_bounds-received-end c = within _ _ _ _ _ _ c.loop-sender.invariant
+
+pub slice_bounds-ticked_with-end : goal.slice_bounds-ticked_with-end
+slice_bounds-ticked_with-end c = sym (length-take-le _ _ (within _ _ _ _ _ _ c.loop-sender.invariant))

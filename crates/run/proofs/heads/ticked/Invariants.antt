@@ -1,11 +1,9 @@
-use Rattle.std.proofs.Common.{◌≡◌, ◌≤◌, length, take}
-use Rattle.std.specs.List.{flat_map}
-use Rattle.run.specs.Received.{received_from}
+use Rattle.std.proofs.Common.{length, ◌-◌}
+use Rattle.run.proofs.Received.{Kept}
 use Rattle.run.proofs.heads.ticked.Given as goal
 
 abbrev pub invariant-loop-sender : goal.invariant-loop-sender
-invariant-loop-sender l = record {
-  within : l.count ≤ l.sender;
-  room : length l.received ≡ 32;
-  so_far : flat_map (λ ballot. ballot) (take l.count l.received) ≡ received_from l.sent l.lost l.sender;
-}
+invariant-loop-sender l = Kept l.sent l.lost l.received l.left l.sender l.count
+
+abbrev pub decreases-loop-sender : goal.decreases-loop-sender
+decreases-loop-sender l = length l.sent - l.sender
