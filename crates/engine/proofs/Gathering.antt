@@ -7,7 +7,7 @@ use mathlib.Core.Logic.{◌⊎◌, inl, inr}
 use native.Mathlib.Decide.{ℕ_discrete}
 use native.Mathlib.Omega.{arith}
 use lib.Dec.{ltb, eqb, lit<}
-use lib.ListN.{length}
+use lib.ListN.{length, get_or}
 use borrow.Author.Tests.{ltb-true, lt-ltb, le-ltb, ne_eqb}
 use Rattle.rules.specs.declared.Value.{Value}
 use Rattle.rules.specs.declared.Value.TheVariants.{Zero, One, Blank}
@@ -30,7 +30,7 @@ use Rattle.rules.proofs.Meaning.Meanings.{status_low, means_sound}
 use Rattle.rules.proofs.OneTick.Leader.{means_ahead, Leads, leader_leads, leader_highest}
 use Rattle.rules.proofs.OneTick.Senders.{Moves, stays, copies, moves}
 use Rattle.engine.specs.declared.look.Look.{Look}
-use Rattle.engine.specs.Look.{refused, code, in_table, highest, is_said, said_in, look_at, Looks, Fits, value_by, status_by, foremost, shown, list_number, listened}
+use Rattle.engine.specs.Look.{refused, code, highest, is_said, said_in, look_at, Looks, Fits, value_by, status_by, foremost, shown, list_number, listened}
 use Rattle.engine.proofs.Growing.{highest_most, highest_least, highest_within}
 use Rattle.engine.proofs.Refusing.{code_low, stands_clean, clean_low, one_code}
 use Rattle.engine.proofs.Looking.{said_of, sees}
@@ -259,7 +259,7 @@ module _ (h : Head) (l : List ℕ) (look : Look) (is : Looks h l look) (end : lo
     told c (j, m, e) =
         one_code h l (ballots l) none (leader l) j leads.within m (phase ∙ sym e.0, sym e.1.0) ∙ e.1.1
 
-    said : (c : ℕ) → ltb c 5 ≡ true → member best.sender (in_table (said_of look) c) ≡ eqb (code best) c
+    said : (c : ℕ) → ltb c 5 ≡ true → member best.sender (get_or (said_of look) c 0) ≡ eqb (code best) c
     said c b =
         means_same
         (means_as (told c) (λ e. (leader l, leads.within, (phase, (refl, e))))

@@ -1,12 +1,12 @@
 -- Looking at one ballot after the other, none of them refused.
-use Prim.Native.Nat.{ℕ, zero, suc, ◌+◌, ◌*◌, ◌/◌, ◌%◌, ◌≤◌, ◌<◌}
-use mathlib.Core.Path.{◌≡◌, refl, sym, ap, ap₂, subst, ◌∙◌}
+use Prim.Native.Nat.{ℕ, zero, suc, ◌+◌, ◌≤◌, ◌<◌}
+use mathlib.Core.Path.{◌≡◌, refl, sym, ap, subst, ◌∙◌}
 use mathlib.Core.List.{List, [], ◌∷◌}
 use mathlib.Core.Bool.{Bool, true, cond}
 use native.Mathlib.Decide.{dec_lt, ℕ_discrete}
 use native.Mathlib.Omega.{arith}
 use lib.Dec.{eqb, lit<}
-use lib.ListN.{length, get_or, set, length-set}
+use lib.ListN.{length, get_or, set}
 use lib.Seq.{get_or-set_same, get_or-set_other}
 use lib.Bits.{bit_or}
 use borrow.Author.Tests.{eq-eqb, ne_eqb}
@@ -19,7 +19,7 @@ use Rattle.rules.proofs.Counting.Below.{NoneBefore, some_here, some_not, search_
 use Rattle.rules.proofs.Counting.Truth.{means_and, means_lt, means_eq}
 use Rattle.rules.proofs.Counting.Sets.{member_set_of}
 use Rattle.engine.specs.declared.look.Look.{Look}
-use Rattle.engine.specs.Look.{refused, alone, code, in_table, highest, is_of, is_late, listed_in, said_in, late_in, look_at, unlooked, Looks, GoesOn, KnownIn}
+use Rattle.engine.specs.Look.{refused, alone, code, nobody_said, highest, is_of, is_late, listed_in, said_in, late_in, look_at, unlooked, Looks, GoesOn, KnownIn}
 use Rattle.engine.proofs.Growing.{nobody, highest_stays, highest_rises, highest_most, highest_least, listed_grows, said_grows, said_other, late_stays, listed_stays, said_stays, late_grows, listed_begins, said_begins, late_begins}
 
 -- what holds of the numbers below five
@@ -31,16 +31,16 @@ five P a b c d e (suc (suc (suc zero))) h = d
 five P a b c d e (suc (suc (suc (suc zero)))) h = e
 five P a b c d e (suc (suc (suc (suc (suc k))))) h = absurd (omega arith)
 
--- the sets of a look by value and status
-abbrev pub said_of : Look → List (List ℕ)
-said_of look = (look.zeros ∷ look.zeros_decided ∷ []) ∷ (look.ones ∷ look.ones_decided ∷ []) ∷ (look.blanks ∷ 0 ∷ []) ∷ []
+-- the sets of a look by place
+abbrev pub said_of : Look → List ℕ
+said_of look = look.zeros ∷ look.zeros_decided ∷ look.ones ∷ look.ones_decided ∷ look.blanks ∷ []
 
 -- the fields of a look at the first k ballots, one by one
-abbrev pub Sees : Head → List ℕ → ℕ → ℕ → ℕ → ℕ → List (List ℕ) → Type 0
+abbrev pub Sees : Head → List ℕ → ℕ → ℕ → ℕ → ℕ → List ℕ → Type 0
 Sees h l k p listed elsewhere said =
-    (highest h l k ≡ p) × (listed ≡ listed_in l k p) × (elsewhere ≡ late_in l k p) × ((c : ℕ) → c < 5 → in_table said c ≡ said_in l k p c)
+    (highest h l k ≡ p) × (listed ≡ listed_in l k p) × (elsewhere ≡ late_in l k p) × ((c : ℕ) → c < 5 → get_or said c 0 ≡ said_in l k p c)
 
-abbrev pub look_with : ℕ → ℕ → ℕ → ℕ → List (List ℕ) → Look
+abbrev pub look_with : ℕ → ℕ → ℕ → ℕ → List ℕ → Look
 look_with k p listed elsewhere said =
     record {
       next =
@@ -48,78 +48,30 @@ look_with k p listed elsewhere said =
       phase = p;
       listed = listed;
       elsewhere = elsewhere;
-      zeros = in_table said 0;
-      zeros_decided = in_table said 1;
-      ones = in_table said 2;
-      ones_decided = in_table said 3;
-      blanks = in_table said 4;
+      zeros = get_or said 0 0;
+      zeros_decided = get_or said 1 0;
+      ones = get_or said 2 0;
+      ones_decided = get_or said 3 0;
+      blanks = get_or said 4 0;
     }
 
-abbrev pub nobody_said : List (List ℕ)
-nobody_said = (0 ∷ 0 ∷ []) ∷ (0 ∷ 0 ∷ []) ∷ (0 ∷ 0 ∷ []) ∷ []
+-- another set at a place
+module _ (said : List ℕ) (c x : ℕ) (b : c < length said) where
+  pub there : get_or (set said c x) c 0 ≡ x
+  there = get_or-set_same said c x 0 b
 
--- a table of three rows of two
-abbrev pub IsTable : List (List ℕ) → Type 0
-IsTable said = (length said ≡ 3) × ((v : ℕ) → v < 3 → length (get_or said v []) ≡ 2)
+  pub elsewhere_same : (k : ℕ) → (c ≡ k → ⊥) → get_or (set said c x) k 0 ≡ get_or said k 0
+  elsewhere_same k n = get_or-set_other said c k x 0 (λ e. n (sym e))
 
-pub is_table : {a b c d e f : ℕ} → IsTable ((a ∷ b ∷ []) ∷ (c ∷ d ∷ []) ∷ (e ∷ f ∷ []) ∷ [])
-is_table {a} {b} {c} {d} {e} {f} = (refl, row)
-  where
-    row : (v : ℕ) → v < 3 → length (get_or ((a ∷ b ∷ []) ∷ (c ∷ d ∷ []) ∷ (e ∷ f ∷ []) ∷ []) v []) ≡ 2
-    row zero m = refl
-    row (suc zero) m = refl
-    row (suc (suc zero)) m = refl
-    row (suc (suc (suc k))) m = absurd (omega arith)
-
-pub at_place : (said : List (List ℕ)) (v t : ℕ) → t < 2 → in_table said (v * 2 + t) ≡ get_or (get_or said v []) t 0
-at_place said v t b = ap₂ (λ (w u : ℕ). get_or (get_or said w []) u 0) (omega arith) (omega arith)
-
--- with another set at a value and a status
-abbrev pub table_with : List (List ℕ) → ℕ → ℕ → ℕ → List (List ℕ)
-table_with said v t x = set said v (set (get_or said v []) t x)
-
-module _ (said : List (List ℕ)) (is : IsTable said) (v t x : ℕ) (b : v < 3) (d : t < 2) where
-  pub still_table : IsTable (table_with said v t x)
-  still_table = (length-set said v _ ∙ is.0, row)
+  pub at_each : (k : ℕ) → get_or (set said c x) k 0 ≡ cond (eqb c k) x (get_or said k 0)
+  at_each k = go (ℕ_discrete c k)
     where
-      row : (w : ℕ) → w < 3 → length (get_or (table_with said v t x) w []) ≡ 2
-      row w m = go (ℕ_discrete v w)
-        where
-          go : Dec (v ≡ w) → length (get_or (table_with said v t x) w []) ≡ 2
-          go (yes q) =
-              ap (λ (k : ℕ). length (get_or (table_with said v t x) k [])) (sym q)
-              ∙ ap (λ (r : List ℕ). length r) (get_or-set_same said v (set (get_or said v []) t x) [] (omega (arith, is.0)))
-              ∙ length-set (get_or said v []) t x
-              ∙ is.1 v b
-          go (no n) = ap (λ (r : List ℕ). length r) (get_or-set_other said v w (set (get_or said v []) t x) [] (λ z. n (sym z))) ∙ is.1 w m
-
-  pub table_same : in_table (table_with said v t x) (v * 2 + t) ≡ x
-  table_same =
-      ap₂ (λ (w u : ℕ). get_or (get_or (table_with said v t x) w []) u 0) (omega arith) (omega arith)
-      ∙ ap (λ (r : List ℕ). get_or r t 0) (get_or-set_same said v (set (get_or said v []) t x) [] (omega (arith, is.0)))
-      ∙ get_or-set_same (get_or said v []) t x 0 (omega (arith, is.1 v b))
-
-  pub table_other : (k : ℕ) → (v * 2 + t ≡ k → ⊥) → in_table (table_with said v t x) k ≡ in_table said k
-  table_other k n = go (ℕ_discrete v (k / 2))
-    where
-      go : Dec (v ≡ k / 2) → in_table (table_with said v t x) k ≡ in_table said k
-      go (yes q) =
-          ap (λ (w : ℕ). get_or (get_or (table_with said v t x) w []) (k % 2) 0) (sym q)
-          ∙ ap (λ (r : List ℕ). get_or r (k % 2) 0) (get_or-set_same said v (set (get_or said v []) t x) [] (omega (arith, is.0)))
-          ∙ get_or-set_other (get_or said v []) t (k % 2) x 0 (λ z. n (omega arith))
-          ∙ ap (λ (w : ℕ). get_or (get_or said w []) (k % 2) 0) q
-      go (no m) =
-          ap (λ (r : List ℕ). get_or r (k % 2) 0) (get_or-set_other said v (k / 2) (set (get_or said v []) t x) [] (λ z. m (sym z)))
-
-  pub table_at : (k : ℕ) → in_table (table_with said v t x) k ≡ cond (eqb (v * 2 + t) k) x (in_table said k)
-  table_at k = go (ℕ_discrete (v * 2 + t) k)
-    where
-      go : Dec (v * 2 + t ≡ k) → in_table (table_with said v t x) k ≡ cond (eqb (v * 2 + t) k) x (in_table said k)
-      go (yes q) =
-          ap (in_table (table_with said v t x)) (sym q)
-          ∙ table_same
-          ∙ sym (ap (λ (y : Bool). cond y x (in_table said k)) (eq-eqb (v * 2 + t) k q))
-      go (no n) = table_other k n ∙ sym (ap (λ (y : Bool). cond y x (in_table said k)) (ne_eqb (v * 2 + t) k n))
+      go : Dec (c ≡ k) → get_or (set said c x) k 0 ≡ cond (eqb c k) x (get_or said k 0)
+      go (yes e) =
+          ap (λ (j : ℕ). get_or (set said c x) j 0) (sym e)
+          ∙ there
+          ∙ sym (ap (λ (y : Bool). cond y x (get_or said k 0)) (eq-eqb c k e))
+      go (no n) = elsewhere_same k n ∙ sym (ap (λ (y : Bool). cond y x (get_or said k 0)) (ne_eqb c k n))
 
 module _ (h : Head) (l : List ℕ) where
   pub sees : (k : ℕ) (look : Look) → look ≡ look_at h l k
@@ -130,7 +82,7 @@ module _ (h : Head) (l : List ℕ) where
         p,
         ap (λ (x : Look). x.listed) e ∙ ap (listed_in l k) p,
         ap (λ (x : Look). x.elsewhere) e ∙ ap (late_in l k) p,
-        five (λ c. in_table (said_of look) c ≡ said_in l k look.phase c)
+        five (λ c. get_or (said_of look) c 0 ≡ said_in l k look.phase c)
             (ap (λ (x : Look). x.zeros) e ∙ ap (λ (q : ℕ). said_in l k q 0) p)
             (ap (λ (x : Look). x.zeros_decided) e ∙ ap (λ (q : ℕ). said_in l k q 1) p)
             (ap (λ (x : Look). x.ones) e ∙ ap (λ (q : ℕ). said_in l k q 2) p)
@@ -138,7 +90,7 @@ module _ (h : Head) (l : List ℕ) where
             (ap (λ (x : Look). x.blanks) e ∙ ap (λ (q : ℕ). said_in l k q 4) p),
       )
 
-  pub seen : (k p listed elsewhere : ℕ) (said : List (List ℕ)) → Sees h l k p listed elsewhere said
+  pub seen : (k p listed elsewhere : ℕ) (said : List ℕ) → Sees h l k p listed elsewhere said
       → look_with k p listed elsewhere said ≡ look_at h l k
   unfolding look_at
   seen k p listed elsewhere said s =
@@ -152,17 +104,17 @@ module _ (h : Head) (l : List ℕ) where
   unfolding highest
   look_starts =
       seen 0 h.phase 0 0 nobody_said
-      (refl, none (is_of l h.phase), none (is_late l h.phase), five (λ c. in_table nobody_said c ≡ said_in l 0 h.phase c) (none _) (none _) (none _) (none _) (none _))
+      (refl, none (is_of l h.phase), none (is_late l h.phase), five (λ c. get_or nobody_said c 0 ≡ said_in l 0 h.phase c) (none _) (none _) (none _) (none _) (none _))
     where
       none : (p : ℕ → ℕ → Bool) → 0 ≡ set_of 32 (λ s. some 0 (p s))
       none p = nobody _ (λ s. some_not 0 (p s) (λ j b. absurd (omega arith)))
 
-  module _ (i p listed elsewhere : ℕ) (said : List (List ℕ)) (s : Sees h l i p listed elsewhere said) where
+  module _ (i p listed elsewhere : ℕ) (said : List ℕ) (s : Sees h l i p listed elsewhere said) where
     -- with a ballot of the phase
-    pub sees_present : (v t a : ℕ) → IsTable said → (ballot_at l i).phase ≡ p → v * 2 + t ≡ code (ballot_at l i) → v < 3 → t < 2 → v * 2 + t < 5
+    pub sees_present : (c a : ℕ) → length said ≡ 5 → (ballot_at l i).phase ≡ p → c ≡ code (ballot_at l i) → c < 5
         → a ≡ alone (ballot_at l i).sender
-        → Sees h l (i + 1) p (bit_or listed a) elsewhere (table_with said v t (bit_or (get_or (get_or said v []) t 0) a))
-    sees_present v t a is e d b c few w = (
+        → Sees h l (i + 1) p (bit_or listed a) elsewhere (set said c (bit_or (get_or said c 0) a))
+    sees_present c a long e d few w = (
       sym (highest_stays h l i (omega (arith, s.0))) ∙ s.0,
       ap (λ (x : ℕ). bit_or x a) s.1 ∙ ap (bit_or (listed_in l i p)) w ∙ listed_grows l i p e,
       s.2 ∙ late_stays l i p (omega arith),
@@ -170,24 +122,21 @@ module _ (h : Head) (l : List ℕ) where
     )
       where
         x : ℕ
-        x = bit_or (get_or (get_or said v []) t 0) a
+        x = bit_or (get_or said c 0) a
 
-        before : get_or (get_or said v []) t 0 ≡ said_in l i p (v * 2 + t)
-        before = sym (at_place said v t c) ∙ s.3 (v * 2 + t) few
-
-        each : (k : ℕ) → k < 5 → in_table (table_with said v t x) k ≡ said_in l (i + 1) p k
-        each k m = go (ℕ_discrete (v * 2 + t) k)
+        each : (k : ℕ) → k < 5 → get_or (set said c x) k 0 ≡ said_in l (i + 1) p k
+        each k m = go (ℕ_discrete c k)
           where
-            go : Dec (v * 2 + t ≡ k) → in_table (table_with said v t x) k ≡ said_in l (i + 1) p k
+            go : Dec (c ≡ k) → get_or (set said c x) k 0 ≡ said_in l (i + 1) p k
             go (yes q) =
-                ap (in_table (table_with said v t x)) (sym q)
-                ∙ table_same said is v t x b c
-                ∙ ap (λ (y : ℕ). bit_or y a) (before ∙ ap (said_in l i p) d)
+                ap (λ (j : ℕ). get_or (set said c x) j 0) (sym q)
+                ∙ there said c x (omega (arith, few, long))
+                ∙ ap (λ (y : ℕ). bit_or y a) (s.3 c few ∙ ap (said_in l i p) d)
                 ∙ ap (bit_or (said_in l i p (code (ballot_at l i)))) w
                 ∙ said_grows l i p e
                 ∙ ap (said_in l (i + 1) p) (sym d ∙ q)
             go (no n) =
-                table_other said is v t x b c k n
+                elsewhere_same said c x (omega (arith, few, long)) k n
                 ∙ s.3 k m
                 ∙ said_other l i p k (λ z. n (d ∙ z))
 
@@ -210,9 +159,9 @@ module _ (h : Head) (l : List ℕ) where
     )
 
     -- with one of a higher phase
-    pub sees_ahead : (v t a : ℕ) → p < (ballot_at l i).phase → v * 2 + t ≡ code (ballot_at l i) → v < 3 → t < 2 → a ≡ alone (ballot_at l i).sender
-        → Sees h l (i + 1) (ballot_at l i).phase a (bit_or elsewhere listed) (table_with nobody_said v t a)
-    sees_ahead v t a b d few two w =
+    pub sees_ahead : (c a : ℕ) → p < (ballot_at l i).phase → c ≡ code (ballot_at l i) → c < 5 → a ≡ alone (ballot_at l i).sender
+        → Sees h l (i + 1) (ballot_at l i).phase a (bit_or elsewhere listed) (set nobody_said c a)
+    sees_ahead c a b d few w =
         let most : (j : ℕ) → j < i → (ballot_at l j).phase ≤ p = λ j m. omega (arith, highest_most h l i j m, s.0) in (
           sym (highest_rises h l i (omega (arith, s.0))),
           w ∙ listed_begins l i p (ballot_at l i).phase most b refl,
@@ -220,13 +169,13 @@ module _ (h : Head) (l : List ℕ) where
           λ k m. one k m ∙ ap (λ (x : ℕ). cond (eqb x k) a 0) d ∙ ap (λ (x : ℕ). cond (eqb (code (ballot_at l i)) k) x 0) w ∙ said_begins l i p (ballot_at l i).phase most b refl k,
         )
       where
-        one : (k : ℕ) → k < 5 → in_table (table_with nobody_said v t a) k ≡ cond (eqb (v * 2 + t) k) a 0
+        one : (k : ℕ) → k < 5 → get_or (set nobody_said c a) k 0 ≡ cond (eqb c k) a 0
         one k m =
-            table_at nobody_said is_table v t a few two k
-            ∙ ap (cond (eqb (v * 2 + t) k) a) (five (λ j. ◌≡◌ {A = ℕ} (in_table nobody_said j) 0) refl refl refl refl refl k m)
+            at_each nobody_said c a few k
+            ∙ ap (cond (eqb c k) a) (five (λ j. ◌≡◌ {A = ℕ} (get_or nobody_said j 0) 0) refl refl refl refl refl k m)
 
   -- a look that goes on to index i
-  pub goes_on : (R : ℕ → ℕ → Type 0) (from : Look) (i p listed elsewhere : ℕ) (said : List (List ℕ)) (look : Look)
+  pub goes_on : (R : ℕ → ℕ → Type 0) (from : Look) (i p listed elsewhere : ℕ) (said : List ℕ) (look : Look)
       → look ≡ look_with i p listed elsewhere said
       → from.next ≤ i → i ≤ ballots l → NoneBefore i (refused h l) → Sees h l i p listed elsewhere said
       → (i < ballots l → R (ballot_at l i).phase p → refused h l i ≡ true)

@@ -72,10 +72,10 @@ module _ (n : ℕ) (l : List ℕ) (i : ℕ) (stands : breaks_rule n l i ≡ fals
       omega arith
 
   -- read from its own bytes too
-  pub code_of : {five : List ℕ} {v t : ℕ} → StandsAt five l i → v ≡ get_or five 1 0 → t ≡ get_or five 2 0
-      → (v * 2 + t ≡ code (ballot_at l i)) × (v * 2 + t < 5)
-  code_of at e f =
-      (omega (arith, e, f, same_value at, same_status at, code_read), omega (arith, e, f, same_value at, same_status at, low_code))
+  pub code_of : {five : List ℕ} {c : ℕ} → StandsAt five l i → c ≡ get_or five 1 0 * 2 + get_or five 2 0
+      → (c ≡ code (ballot_at l i)) × (c < 5)
+  code_of at e =
+      (omega (arith, e, same_value at, same_status at, code_read), omega (arith, e, same_value at, same_status at, low_code))
 
   pub code_low : code (ballot_at l i) < 5
   code_low = omega (arith, low_code, code_read)

@@ -69,9 +69,9 @@ abbrev pub is_within : ℕ → List ℕ → List ℕ → ℕ → Bool
 is_within n statuses l i =
     ltb (get_or l (i * 5) 0) n && ltb (get_or l (i * 5 + 2) 0) (get_or statuses (get_or l (i * 5 + 1) 0) 0)
 
--- a table with a row for each value and a column for each status: at a value and a status in one number
-abbrev pub in_table : List (List ℕ) → ℕ → ℕ
-in_table said c = get_or (get_or said (c / 2) []) (c % 2) 0
+-- the sets of a look by place, nobody in them
+abbrev pub nobody_said : List ℕ
+nobody_said = 0 ∷ 0 ∷ 0 ∷ 0 ∷ 0 ∷ []
 
 -- the ballot of head s at phase p with that value and status
 abbrev pub ballot_by : ℕ → ℕ → ℕ → Ballot
@@ -144,18 +144,18 @@ unlooked h =
       blanks = 0;
     }
 
-abbrev pub with_said : Look → ℕ → ℕ → List (List ℕ) → Look
+abbrev pub with_said : Look → ℕ → ℕ → List ℕ → Look
 with_said look k listed said =
     record {
       next = k;
       phase = look.phase;
       listed = listed;
       elsewhere = look.elsewhere;
-      zeros = in_table said 0;
-      zeros_decided = in_table said 1;
-      ones = in_table said 2;
-      ones_decided = in_table said 3;
-      blanks = in_table said 4;
+      zeros = get_or said 0 0;
+      zeros_decided = get_or said 1 0;
+      ones = get_or said 2 0;
+      ones_decided = get_or said 3 0;
+      blanks = get_or said 4 0;
     }
 
 -- numbers of heads that fit into a set

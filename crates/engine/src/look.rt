@@ -11,7 +11,8 @@ ghost use Rattle.engine.specs.Look.{Fits, Looks, GoesOn, KnownIn, value_by, stat
 use crate::ballot::{breaks_rule, class};
 use crate::list::{first_of, otherwise};
 use crate::said::{
-    alone, barred_from, has, phase_in, place_in, say_the_same, sender_in, stands, statuses_of,
+    alone, barred_from, has, phase_in, place_in, said_alone, say_the_same, sender_in, stands,
+    statuses_of,
 };
 use codes::{BALLOT_BYTES, lowest, member};
 use rules::{Ballot, Head, Status, Value};
@@ -84,11 +85,13 @@ impl Look {
         let statuses = statuses_of(class(self.phase));
         let barred = barred_from(head, self.phase);
         let mut listed = self.listed;
-        // By value and status, since a ballot's codes say which of the sets it is: fields would want a `match`.
+        // By place, since a ballot's codes say which of the sets it is: fields would want a `match`.
         let mut said = [
-            [self.zeros, self.zeros_decided],
-            [self.ones, self.ones_decided],
-            [self.blanks, 0],
+            self.zeros,
+            self.zeros_decided,
+            self.ones,
+            self.ones_decided,
+            self.blanks,
         ];
         for i in self.next..fives.len() {
             let five = &fives[i];
@@ -96,28 +99,28 @@ impl Look {
                 return self.with_said(i, listed, said);
             }
             let sender = sender_in(five);
-            let (value, status) = place_in(five);
-            if is_refused(barred[value][status], listed, said[value][status], sender) {
+            let place = place_in(five);
+            if is_refused(barred[place], listed, said[place], sender) {
                 return self.with_said(i, listed, said);
             }
             let one = alone(sender);
-            said[value][status] |= one;
+            said[place] |= one;
             listed |= one;
         }
         self.with_said(fives.len(), listed, said)
     }
 
-    fn with_said(self, next: usize, listed: u32, said: [[u32; 2]; 3]) -> Look
+    fn with_said(self, next: usize, listed: u32, said: [u32; 5]) -> Look
         ensures { result ≡ with_said self next listed said }
     {
         Look {
             next,
             listed,
-            zeros: said[0][0],
-            zeros_decided: said[0][1],
-            ones: said[1][0],
-            ones_decided: said[1][1],
-            blanks: said[2][0],
+            zeros: said[0],
+            zeros_decided: said[1],
+            ones: said[2],
+            ones_decided: said[3],
+            blanks: said[4],
             ..self
         }
     }
@@ -165,9 +168,7 @@ impl Look {
             return self;
         }
         let sender = alone(sender_in(five));
-        let (value, status) = place_in(five);
-        let mut said = [[0; 2]; 3];
-        said[value][status] = sender;
+        let said = said_alone(place_in(five), sender);
         let risen = Look {
             phase: phase_in(five),
             elsewhere: self.elsewhere | self.listed,

@@ -4,7 +4,7 @@ use mathlib.Core.List.{[], ◌∷◌}
 use native.Mathlib.Omega.{arith}
 use Rattle.rules.specs.Ballot.{value_of, status_of}
 use Rattle.rules.proofs.Meaning.Meanings.{value_low, status_low}
-use Rattle.engine.proofs.Looking.{five, is_table, table_at}
+use Rattle.engine.proofs.Looking.{five, at_each}
 use Rattle.engine.proofs.Barred.{barred_ahead, barred_here, not_zero, not_one, not_blank}
 use Rattle.engine.proofs.said.barred_from.Goals as goal
 
@@ -21,7 +21,7 @@ returns c =
     let code = ap₂ (λ (v t : ℕ). v * 2 + t) c.code.ensures c.code-2.ensures in
     let v : c.code.result < 3 = omega (arith, c.code.ensures, value_low c.args.head.value) in
     let t : c.code-2.result < 2 = omega (arith, c.code-2.ensures, status_low c.args.head.status) in
-    let others = table_at ((own ∷ own ∷ []) ∷ (own ∷ own ∷ []) ∷ (own ∷ own ∷ []) ∷ []) is_table _ _ 0 v t in
+    let others = at_each (own ∷ own ∷ own ∷ own ∷ own ∷ own ∷ []) _ 0 (omega (arith, v, t)) in
     five _
     (c.either.ensures ∙ barred_here _ _ 0 _ _ _ _ _ c.alone-own.ensures here code (others 0) refl (not_zero _))
     (c.either-2.ensures ∙ barred_here _ _ 1 _ _ _ _ _ c.alone-own.ensures here code (others 1) refl (not_zero _))

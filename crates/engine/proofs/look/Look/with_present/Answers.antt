@@ -1,11 +1,12 @@
 use Prim.Native.Nat.{ℕ}
-use mathlib.Core.Path.{◌≡◌, sym, ap, ◌∙◌}
+use mathlib.Core.Path.{◌≡◌, refl, sym, ap, ◌∙◌}
+use lib.ListN.{length-set}
 use native.Mathlib.Omega.{arith}
 use Rattle.rules.proofs.Counting.Below.{none_more}
 use Rattle.engine.specs.Look.{alone, statuses_of}
 use Rattle.engine.proofs.Fives.{array_of, same_sender, same_value, same_status, same_phase}
-use Rattle.engine.proofs.Refusing.{low_sender, low_status, low_code, code_of, test_passed, test_failed, refused_present}
-use Rattle.engine.proofs.Looking.{at_place, is_table, still_table, look_with, sees, phase_least, sees_present, goes_on}
+use Rattle.engine.proofs.Refusing.{low_sender, low_code, code_of, test_passed, test_failed, refused_present}
+use Rattle.engine.proofs.Looking.{look_with, sees, phase_least, sees_present, goes_on}
 use Rattle.engine.proofs.look.Look.with_present.Goals.{then-phase_in-self-via-then-phase_in-self, then-phase_in-self-via-else-phase_in-self+then-not-stands}
 use Rattle.engine.proofs.look.Look.with_present.Goals as goal
 
@@ -13,7 +14,7 @@ pub barred_from-barred-requires-clause-phase_le_phase : goal.barred_from-barred-
 barred_from-barred-requires-clause-phase_le_phase c = phase_least _ _ _ _ c.requires.looks.2
 
 pub loop-i-init : goal.loop-i-init
-loop-i-init c = let pre = c.requires.looks in (is_table, pre.1, sees _ _ _ _ pre.2)
+loop-i-init c = let pre = c.requires.looks in (refl, pre.1, sees _ _ _ _ pre.2)
 
 pub returns-then-phase_in-self : goal.returns-then-phase_in-self
 returns-then-phase_in-self c =
@@ -25,17 +26,11 @@ returns-then-phase_in-self c =
       | then-phase_in-self-via-else-phase_in-self+then-not-stands w ↦ test_failed c.args.head c.args.ballots.now c.loop-i.i here _ _ _ _ c.phase_in.ensures (c.statuses_of-statuses.ensures ∙ ap statuses_of c.class.ensures) w.stands.ensures w.if-not-stands.true q
     ])
 
-pub place_in-value-requires-clause-value_low : goal.place_in-value-requires-clause-value_low
-place_in-value-requires-clause-value_low c =
+pub place_in-place-requires : goal.place_in-place-requires
+place_in-place-requires c =
     let here = array_of c.loop-i.i c.as_chunks.ensures.front (omega (arith, c.loop-i-test.true, c.as_chunks.ensures.front_len)) in
     let test = test_passed c.args.head c.args.ballots.now c.loop-i.i here _ _ _ _ c.phase_in.ensures (c.statuses_of-statuses.ensures ∙ ap statuses_of c.class.ensures) c.stands.ensures c.if-phase_in-self.false c.if-not-stands.false in
-    omega (arith, same_value here, low_code c.args.head.n c.args.ballots.now c.loop-i.i test.1)
-
-pub place_in-value-requires-clause-status_low : goal.place_in-value-requires-clause-status_low
-place_in-value-requires-clause-status_low c =
-    let here = array_of c.loop-i.i c.as_chunks.ensures.front (omega (arith, c.loop-i-test.true, c.as_chunks.ensures.front_len)) in
-    let test = test_passed c.args.head c.args.ballots.now c.loop-i.i here _ _ _ _ c.phase_in.ensures (c.statuses_of-statuses.ensures ∙ ap statuses_of c.class.ensures) c.stands.ensures c.if-phase_in-self.false c.if-not-stands.false in
-    omega (arith, same_status here, low_status c.args.head.n c.args.ballots.now c.loop-i.i test.1)
+    omega (arith, same_value here, same_status here, low_code c.args.head.n c.args.ballots.now c.loop-i.i test.1)
 
 pub is_refused-requires : goal.is_refused-requires
 is_refused-requires c =
@@ -47,11 +42,10 @@ pub returns-then-is_refused : goal.returns-then-is_refused
 returns-then-is_refused c =
     let here = array_of c.loop-i.i c.as_chunks.ensures.front (omega (arith, c.loop-i-test.true, c.as_chunks.ensures.front_len)) in
     let test = test_passed c.args.head c.args.ballots.now c.loop-i.i here _ _ _ _ c.phase_in.ensures (c.statuses_of-statuses.ensures ∙ ap statuses_of c.class.ensures) c.stands.ensures c.if-phase_in-self.false c.if-not-stands.false in
-    let code = code_of c.args.head.n c.args.ballots.now c.loop-i.i test.1 here c.place_in-value.ensures.value c.place_in-value.ensures.status in
-    let in_row = c.place_in-value.ensures.within.1 in
+    let code = code_of c.args.head.n c.args.ballots.now c.loop-i.i test.1 here c.place_in-place.ensures.place in
     goes_on c.args.head c.args.ballots.now (λ p q. p ≡ q) c.args.self _ _ _ _ c.loop-i.said _ c.with_said-then-is_refused.ensures
     c.loop-i.auto.i (omega (arith, c.loop-i-test.true, c.as_chunks.ensures.front_len)) c.loop-i.invariant.1 c.loop-i.invariant.2
-    (λ b q. sym (c.is_refused.ensures ∙ refused_present c.args.head c.args.ballots.now c.loop-i.i c.loop-i.invariant.1 _ _ _ _ _ _ (c.sender_in-sender.ensures ∙ same_sender here) c.requires.fits test.1 test.0 code.0 (sym (at_place _ _ _ in_row) ∙ c.barred_from-barred.ensures _ code.1) c.loop-i.invariant.2.1 (sym (at_place _ _ _ in_row) ∙ c.loop-i.invariant.2.3 _ code.1)) ∙ c.if-is_refused.true)
+    (λ b q. sym (c.is_refused.ensures ∙ refused_present c.args.head c.args.ballots.now c.loop-i.i c.loop-i.invariant.1 _ _ _ _ _ _ (c.sender_in-sender.ensures ∙ same_sender here) c.requires.fits test.1 test.0 code.0 (c.barred_from-barred.ensures _ code.1) c.loop-i.invariant.2.1 (c.loop-i.invariant.2.3 _ code.1)) ∙ c.if-is_refused.true)
 
 pub alone-one-requires : goal.alone-one-requires
 alone-one-requires c =
@@ -63,11 +57,10 @@ pub loop-i-preserved : goal.loop-i-preserved
 loop-i-preserved c =
     let here = array_of c.loop-i.i c.as_chunks.ensures.front (omega (arith, c.loop-i-test.true, c.as_chunks.ensures.front_len)) in
     let test = test_passed c.args.head c.args.ballots.now c.loop-i.i here _ _ _ _ c.phase_in.ensures (c.statuses_of-statuses.ensures ∙ ap statuses_of c.class.ensures) c.stands.ensures c.if-phase_in-self.false c.if-not-stands.false in
-    let code = code_of c.args.head.n c.args.ballots.now c.loop-i.i test.1 here c.place_in-value.ensures.value c.place_in-value.ensures.status in
-    let in_row = c.place_in-value.ensures.within.1 in (
-      still_table _ c.loop-i.invariant.0 _ _ _ c.place_in-value.ensures.within.0 in_row,
-      none_more c.loop-i.invariant.1 (sym (c.is_refused.ensures ∙ refused_present c.args.head c.args.ballots.now c.loop-i.i c.loop-i.invariant.1 _ _ _ _ _ _ (c.sender_in-sender.ensures ∙ same_sender here) c.requires.fits test.1 test.0 code.0 (sym (at_place _ _ _ in_row) ∙ c.barred_from-barred.ensures _ code.1) c.loop-i.invariant.2.1 (sym (at_place _ _ _ in_row) ∙ c.loop-i.invariant.2.3 _ code.1)) ∙ c.if-is_refused.false),
-      sees_present _ _ _ _ _ _ c.loop-i.said c.loop-i.invariant.2 _ _ _ c.loop-i.invariant.0 test.0 code.0 c.place_in-value.ensures.within.0 in_row code.1 (c.alone-one.ensures ∙ ap alone (c.sender_in-sender.ensures ∙ same_sender here)),
+    let code = code_of c.args.head.n c.args.ballots.now c.loop-i.i test.1 here c.place_in-place.ensures.place in (
+      length-set _ _ _ ∙ c.loop-i.invariant.0,
+      none_more c.loop-i.invariant.1 (sym (c.is_refused.ensures ∙ refused_present c.args.head c.args.ballots.now c.loop-i.i c.loop-i.invariant.1 _ _ _ _ _ _ (c.sender_in-sender.ensures ∙ same_sender here) c.requires.fits test.1 test.0 code.0 (c.barred_from-barred.ensures _ code.1) c.loop-i.invariant.2.1 (c.loop-i.invariant.2.3 _ code.1)) ∙ c.if-is_refused.false),
+      sees_present _ _ _ _ _ _ c.loop-i.said c.loop-i.invariant.2 _ _ c.loop-i.invariant.0 test.0 code.0 code.1 (c.alone-one.ensures ∙ ap alone (c.sender_in-sender.ensures ∙ same_sender here)),
     )
 
 pub returns : goal.returns
