@@ -39,6 +39,8 @@ pub(crate) fn ticked(head: Head, sent: &[[u8; BALLOT_BYTES]], lost: u32, coin: u
     let mut count = 0;
     let mut left = others(lost);
     let mut sender = lowest(left) as usize;
+    // A `while`, from one ballot that is not lost to the next: with a `for` over all of them a file that
+    // loses most took 1.4 times the instructions.
     while sender < sent.len() {
         received[count] = sent[sender];
         count += 1;
