@@ -165,13 +165,6 @@ pub within : (sent list : List (List ℕ)) (lost left k count : ℕ) → Kept se
 within sent list lost left k count kept =
     omega (arith, kept.0, kept.1, kept.4, first_le 32 (λ s. member s left))
 
--- at the end
-pub all_kept : (sent list : List (List ℕ)) (lost left k count : ℕ) → Kept sent lost list left k count → length sent ≤ k
-    → in_turn (take count list) ≡ received_from sent lost (length sent)
-all_kept sent list lost left k count kept past =
-    let end : min k (length sent) ≡ length sent = omega (arith, past) in
-    kept.2 ∙ ap (received_from sent lost) end
-
 -- where nothing is lost, all are received
 pub all_received : (sent : List (List ℕ)) → received_from sent 0 (length sent) ≡ in_turn sent
 all_received sent = go (length sent) (omega arith) ∙ ap in_turn (take_all (length sent) sent (omega arith))
